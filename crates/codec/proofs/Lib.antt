@@ -1,0 +1,10 @@
+pub mod Xor
+pub mod Linear
+pub mod Message
+pub mod ShiftRegister
+pub mod Table
+pub mod Division
+pub mod ChecksumLaws
+pub mod CursorLaws
+pub mod Copy
+pub mod RunLaws
