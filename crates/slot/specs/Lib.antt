@@ -1,0 +1,3 @@
+pub mod Status
+pub mod Read
+pub mod Write

@@ -1,0 +1,2 @@
+// Layer 2: the slot as it is read.
+pub mod slot;
