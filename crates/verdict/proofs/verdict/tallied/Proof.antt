@@ -1,0 +1,30 @@
+-- `tallied` meets its contract, field by field.
+use borrow.Author.Needs.{needs}
+use Rattle.verdict.proofs.verdict.tallied.Statement.{statement}
+use Rattle.verdict.proofs.verdict.tallied.Tie as tie
+
+page-candidate-requires : tie.Need-page-candidate-requires
+page-candidate-requires c κs = search needs
+
+trouble-requires : tie.Need-trouble-requires
+trouble-requires c κs = search needs
+
+refused-requires : tie.Need-refused-requires
+refused-requires c κs = search needs
+
+either-requires : tie.Need-either-requires
+either-requires c κs = search needs
+
+returns : tie.Need-returns
+returns c =
+    simp (c .before .before .before .page-candidate .ensures, c .before .before .trouble .ensures, c .either .ensures, c .before .refused .ensures)
+
+pub tallied-spec : {M : Type 1} → statement M
+tallied-spec =
+    tie.close
+    (tie.spec
+    page-candidate-requires
+    trouble-requires
+    refused-requires
+    either-requires
+    returns)
