@@ -1,0 +1,28 @@
+-- What a C host finds after a judgement: a refusal, or the numbers of the judgement. A slot is 0 none, 1 A, 2 B.
+use mathlib.Core.List.{List, [], _∷_}
+use Prim.Native.Nat.{ℕ}
+use Rattle.verdict.specs.declared.verdict.Heal.{Heal}
+use Rattle.verdict.specs.declared.verdict.Judgement.{Judgement}
+use Rattle.judge.specs.declared.frames.Judged.{Judged}
+use Rattle.store_io.specs.Pairs.{slotNumber, flag}
+
+abbrev pub healSlot : Heal → ℕ
+healSlot Heal.Nothing = 0
+healSlot (Heal.Slot pair index) = slotNumber index
+
+abbrev pub healPair : Heal → ℕ
+healPair Heal.Nothing = 0
+healPair (Heal.Slot pair index) = pair
+
+-- The slot to heal and its pair, writable, clean, refused.
+unfoldable pub judgementValues : Judgement → List ℕ
+judgementValues j = healSlot (j .heal) ∷ healPair (j .heal) ∷ flag (j .writable) ∷ flag (j .clean) ∷ flag (j .refused) ∷ []
+
+abbrev pub judgedRefusal : Judged → ℕ
+judgedRefusal (Judged.Refusal number) = number
+judgedRefusal (Judged.Done j) = 0
+
+-- The numbers afterwards: kept at a refusal.
+abbrev pub judgementOr : List ℕ → Judged → List ℕ
+judgementOr old (Judged.Refusal number) = old
+judgementOr old (Judged.Done j) = judgementValues j

@@ -1,0 +1,284 @@
+// Slots for C hosts: the volume id as two numbers, any index but 0 is B, any `numbered` but 0 is yes.
+use encode::EncodeError;
+use encode::Encoded;
+use frame::frame::SlotPart;
+use slot::slot::Expect;
+use slot::slot::HeaderFacts;
+use slot::slot::SlotFields;
+use slot::slot::SlotIndex;
+use slot::slot::SlotStatus;
+ghost use mathlib.Core.Path.{_≡_};
+ghost use mathlib.Core.List.{_++_};
+ghost use Rattle.codec.specs.Bytes.{bytes64};
+ghost use Rattle.slot.specs.Status.{code, factsNumber};
+ghost use Rattle.slot.specs.Read.{validate, headerFacts};
+ghost use Rattle.slot.specs.Write.{encode, encodedBytes};
+ghost use Rattle.frame.specs.Frame.{partOf, partBytes};
+ghost use Rattle.store_io.specs.Slots.{volumeId, indexOf, isYes, fieldsOf, expectOf, statusValues, factsValues};
+ghost use Rattle.store_io.specs.Host.{outcomeRefusal, outcomeOr};
+ghost use Rattle.encode.specs.Encoded.{errorNumber};
+
+// Encodes a complete slot.
+#[no_mangle]
+pub extern "C" fn sio_encode(
+    slot: &mut [u8],
+    volume0: u64,
+    volume1: u64,
+    object_id: u64,
+    generation: u64,
+    owner_generation: u64,
+    slot_offset: u64,
+    index: u32,
+    log2_slot_size: u8,
+    prev_header_crc32c: u32,
+    format_major: u16,
+    meta_seq: u64,
+    compat_flags: u32,
+    payload: &[u8],
+    header_crc32c: &mut u32,
+) -> u32
+    ensures { λ r. ⌜ r ≡ outcomeRefusal (encode (fieldsOf volume0 volume1 «object_id» generation «owner_generation» «slot_offset» index «log2_slot_size» «prev_header_crc32c» «format_major» «meta_seq» «compat_flags») (now (payload .entry)) (now (slot .entry))) ⌝ }
+    ensures { λ _. ⌜ now («header_crc32c» .exit) ≡ outcomeOr (now («header_crc32c» .entry)) (encode (fieldsOf volume0 volume1 «object_id» generation «owner_generation» «slot_offset» index «log2_slot_size» «prev_header_crc32c» «format_major» «meta_seq» «compat_flags») (now (payload .entry)) (now (slot .entry))) ⌝ }
+    ensures { λ _. ⌜ now (slot .exit) ≡ encodedBytes (fieldsOf volume0 volume1 «object_id» generation «owner_generation» «slot_offset» index «log2_slot_size» «prev_header_crc32c» «format_major» «meta_seq» «compat_flags») (now (payload .entry)) (now (slot .entry)) ⌝ }
+{
+    let fields = SlotFields {
+        volume_uuid: volume_id(volume0, volume1),
+        object_id,
+        generation,
+        owner_generation,
+        slot_offset,
+        slot_index: index_of(index),
+        log2_slot_size,
+        prev_header_crc32c,
+        format_major,
+        meta_seq,
+        compat_flags,
+    };
+    match encode::encode(slot, fields, payload) {
+        Encoded::Crc(crc) => {
+            *header_crc32c = crc;
+            0
+        }
+        Encoded::Refused(error) => error_number(error),
+    }
+}
+
+// The status of a slot and its values.
+#[no_mangle]
+pub extern "C" fn sio_validate(
+    slot: &[u8],
+    volume0: u64,
+    volume1: u64,
+    object_id: u64,
+    slot_offset: u64,
+    index: u32,
+    log2_slot_size: u8,
+    format_major: u16,
+    numbered: u32,
+    found: &mut [u64; 9],
+) -> u32
+    ensures { λ r. ⌜ r ≡ code (validate (now (slot .entry)) (expectOf volume0 volume1 «object_id» «slot_offset» index «log2_slot_size» «format_major» numbered)) ⌝ }
+    ensures { λ _. ⌜ now (found .exit) ≡ statusValues (validate (now (slot .entry)) (expectOf volume0 volume1 «object_id» «slot_offset» index «log2_slot_size» «format_major» numbered)) ⌝ }
+{
+    let e = expect_of(
+        volume0,
+        volume1,
+        object_id,
+        slot_offset,
+        index,
+        log2_slot_size,
+        format_major,
+        numbered,
+    );
+    let status = slot::slot::validate(slot, e);
+    *found = status_values(status);
+    status.code() as u32
+}
+
+// What a slot's header shows.
+#[no_mangle]
+pub extern "C" fn sio_header_facts(
+    slot: &[u8],
+    volume0: u64,
+    volume1: u64,
+    object_id: u64,
+    slot_offset: u64,
+    index: u32,
+    log2_slot_size: u8,
+    format_major: u16,
+    numbered: u32,
+    found: &mut [u64; 4],
+) -> u32
+    ensures { λ r. ⌜ r ≡ factsNumber (headerFacts (now (slot .entry)) (expectOf volume0 volume1 «object_id» «slot_offset» index «log2_slot_size» «format_major» numbered)) ⌝ }
+    ensures { λ _. ⌜ now (found .exit) ≡ factsValues (headerFacts (now (slot .entry)) (expectOf volume0 volume1 «object_id» «slot_offset» index «log2_slot_size» «format_major» numbered)) ⌝ }
+{
+    let e = expect_of(
+        volume0,
+        volume1,
+        object_id,
+        slot_offset,
+        index,
+        log2_slot_size,
+        format_major,
+        numbered,
+    );
+    let facts = slot::slot::header_facts(slot, e);
+    *found = facts_values(facts);
+    facts_number(facts)
+}
+
+// A slot's part of a frame.
+#[no_mangle]
+pub extern "C" fn sio_frame_slot(
+    slot: &[u8],
+    volume0: u64,
+    volume1: u64,
+    object_id: u64,
+    slot_offset: u64,
+    index: u32,
+    log2_slot_size: u8,
+    format_major: u16,
+    numbered: u32,
+    part: &mut [u8; 26],
+) -> u32
+    ensures { λ r. ⌜ r ≡ code (validate (now (slot .entry)) (expectOf volume0 volume1 «object_id» «slot_offset» index «log2_slot_size» «format_major» numbered)) ⌝ }
+    ensures { λ _. ⌜ now (part .exit) ≡ partBytes (partOf (validate (now (slot .entry)) (expectOf volume0 volume1 «object_id» «slot_offset» index «log2_slot_size» «format_major» numbered)) (headerFacts (now (slot .entry)) (expectOf volume0 volume1 «object_id» «slot_offset» index «log2_slot_size» «format_major» numbered))) ⌝ }
+{
+    let e = expect_of(
+        volume0,
+        volume1,
+        object_id,
+        slot_offset,
+        index,
+        log2_slot_size,
+        format_major,
+        numbered,
+    );
+    let status = slot::slot::validate(slot, e);
+    let facts = slot::slot::header_facts(slot, e);
+    *part = SlotPart::new(status, facts).bytes();
+    status.code() as u32
+}
+
+// The volume id's first eight bytes are in the first number.
+fn volume_id(volume0: u64, volume1: u64) -> [u8; 16]
+    ensures { λ r. ⌜ r ≡ volumeId volume0 volume1 ⌝ }
+{
+    [
+        (volume0 % 0x100) as u8,
+        (volume0 / 0x100 % 0x100) as u8,
+        (volume0 / 0x10000 % 0x100) as u8,
+        (volume0 / 0x1000000 % 0x100) as u8,
+        (volume0 / 0x100000000 % 0x100) as u8,
+        (volume0 / 0x10000000000 % 0x100) as u8,
+        (volume0 / 0x1000000000000 % 0x100) as u8,
+        (volume0 / 0x100000000000000 % 0x100) as u8,
+        (volume1 % 0x100) as u8,
+        (volume1 / 0x100 % 0x100) as u8,
+        (volume1 / 0x10000 % 0x100) as u8,
+        (volume1 / 0x1000000 % 0x100) as u8,
+        (volume1 / 0x100000000 % 0x100) as u8,
+        (volume1 / 0x10000000000 % 0x100) as u8,
+        (volume1 / 0x1000000000000 % 0x100) as u8,
+        (volume1 / 0x100000000000000 % 0x100) as u8,
+    ]
+}
+
+fn index_of(index: u32) -> SlotIndex
+    ensures { λ r. ⌜ r ≡ indexOf index ⌝ }
+{
+    if index == 0 {
+        return SlotIndex::A;
+    }
+    SlotIndex::B
+}
+
+fn expect_of(
+    volume0: u64,
+    volume1: u64,
+    object_id: u64,
+    slot_offset: u64,
+    index: u32,
+    log2_slot_size: u8,
+    format_major: u16,
+    numbered: u32,
+) -> Expect
+    ensures { λ r. ⌜ r ≡ expectOf volume0 volume1 «object_id» «slot_offset» index «log2_slot_size» «format_major» numbered ⌝ }
+{
+    Expect {
+        volume_uuid: volume_id(volume0, volume1),
+        object_id,
+        slot_offset,
+        slot_index: index_of(index),
+        log2_slot_size,
+        format_major,
+        numbered: numbered != 0,
+    }
+}
+
+fn error_number(error: EncodeError) -> u32
+    ensures { λ r. ⌜ r ≡ errorNumber error ⌝ }
+{
+    match error {
+        EncodeError::SlotSize => 1,
+        EncodeError::BufferLength => 2,
+        EncodeError::PayloadTooLarge => 3,
+        EncodeError::ZeroGeneration => 4,
+        EncodeError::Format => 5,
+    }
+}
+
+fn status_values(status: SlotStatus) -> [u64; 9]
+    ensures { λ r. ⌜ r ≡ statusValues status ⌝ }
+{
+    match status {
+        SlotStatus::ReadError => [0; 9],
+        SlotStatus::BadLength => [0; 9],
+        SlotStatus::Blank => [0; 9],
+        SlotStatus::BadMagic => [0; 9],
+        SlotStatus::BadHeaderCrc => [0; 9],
+        SlotStatus::UnsupportedVersion { major } => [major as u64, 0, 0, 0, 0, 0, 0, 0, 0],
+        SlotStatus::Incompatible { flags } => [flags as u64, 0, 0, 0, 0, 0, 0, 0, 0],
+        SlotStatus::Malformed => [0; 9],
+        SlotStatus::Foreign => [0; 9],
+        SlotStatus::WrongObject => [0; 9],
+        SlotStatus::Misplaced => [0; 9],
+        SlotStatus::BadPayloadCrc => [0; 9],
+        SlotStatus::Valid(info) => [
+            info.generation,
+            info.owner_generation,
+            info.header_crc32c as u64,
+            info.prev_header_crc32c as u64,
+            info.ro_compat_flags as u64,
+            info.compat_flags as u64,
+            info.meta_seq,
+            info.payload_start as u64,
+            info.payload_len as u64,
+        ],
+    }
+}
+
+fn facts_number(facts: HeaderFacts) -> u32
+    ensures { λ r. ⌜ r ≡ factsNumber facts ⌝ }
+{
+    match facts {
+        HeaderFacts::Nothing => 0,
+        HeaderFacts::Stored(_) => 1,
+        HeaderFacts::Numbered(_, _) => 2,
+    }
+}
+
+fn facts_values(facts: HeaderFacts) -> [u64; 4]
+    ensures { λ r. ⌜ r ≡ factsValues facts ⌝ }
+{
+    match facts {
+        HeaderFacts::Nothing => [0; 4],
+        HeaderFacts::Stored(stored) => [stored as u64, 0, 0, 0],
+        HeaderFacts::Numbered(stored, n) => [
+            stored as u64,
+            n.generation,
+            n.meta_seq,
+            n.prev_header_crc32c as u64,
+        ],
+    }
+}
