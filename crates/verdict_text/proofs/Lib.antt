@@ -1,0 +1,3 @@
+pub mod TextLaws
+pub mod JudgeLaws
+pub mod ResponseLaws
