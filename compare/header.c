@@ -1,0 +1,44 @@
+/* header.c: links every function that store_io.h declares; the header must stand being included twice. */
+#include "store_io.h"
+#include "store_io.h"
+
+typedef void (*function)(void);
+
+static const function functions[] = {
+    (function)&sio_crc32c,
+    (function)&sio_crc32c_append,
+    (function)&sio_crc32c_gap,
+
+    (function)&sio_remaining,
+    (function)&sio_read_u8,
+    (function)&sio_read_u16,
+    (function)&sio_read_u32,
+    (function)&sio_read_u64,
+    (function)&sio_read_bytes,
+    (function)&sio_read_array16,
+    (function)&sio_read_array24,
+    (function)&sio_write_u8,
+    (function)&sio_write_u16,
+    (function)&sio_write_u32,
+    (function)&sio_write_u64,
+    (function)&sio_write_bytes,
+    (function)&sio_write_zeros,
+
+    (function)&sio_encode,
+    (function)&sio_validate,
+    (function)&sio_header_facts,
+    (function)&sio_frame_slot,
+
+    (function)&sio_decide,
+
+    (function)&sio_judge,
+};
+
+int main(void) {
+    for (size_t i = 0; i < sizeof functions / sizeof functions[0]; i++) {
+        if (functions[i] == NULL) {
+            return 1;
+        }
+    }
+    return 0;
+}
