@@ -4,14 +4,15 @@ use mathlib.Core.Path.{_≡_, refl, sym, ap, ap₂, _∙_, subst}
 use mathlib.Core.Bool.{Bool, true, false, cond}
 use mathlib.Core.List.{List, [], _∷_, _++_, append-assoc, append-nil}
 use Prim.Native.Nat.{ℕ, zero, suc, _+_, _-_, _*_, _/_, _%_, _^_, _≤_, _<_}
-use native.Mathlib.Nat.{zero-add, add-zero, add-assoc, suc-add, one-mul, mul-assoc, mul-comm, pow-suc, pow-succ', div-div-eq-div-mul, mod-eq-of-lt, div-lt-iff-lt-mul, zero-lt-suc}
+use native.Mathlib.Nat.{zero-add, add-zero, add-assoc, suc-add, one-mul, mul-assoc, mul-comm, pow-suc, pow-succ', div-div-eq-div-mul, mod-eq-of-lt, div-lt-iff-lt-mul, zero-lt-suc, le-of-eq}
+use native.Mathlib.Numerals.{add-one}
 use native.Mathlib.Omega.{arith}
 use borrow.Author.Tests.{le-leb, lt-leb, leb-true, leb-false}
 use borrow.Rule.Slice.PartMut.{putMid, take-put}
-use lib.Dec.{leb}
+use lib.Dec.{leb, lit<}
 use lib.ListN.{length, getD, take, drop, replicate, length-append, length-take, length-drop, drop-of-length-le, List·getD-append}
-use lib.Seq.{drop-drop, take-at, drop-at, getD-append-add, getD-take, getD-drop, length-take-le}
-use Rattle.codec.specs.Bytes.{le, bytes, put, putWhole}
+use lib.Seq.{drop-cons, take-add, drop-drop, take-at, drop-at, getD-append-add, getD-take, getD-drop, length-take-le, take-all}
+use Rattle.codec.specs.Bytes.{AllBytes, le, bytes, put, putWhole}
 use Rattle.codec.specs.Cursor.{Answer, done, refused, step, read, readBytes, readArray, run, write}
 
 -- ---- numbers in bytes
@@ -72,6 +73,44 @@ le-bytes (suc w) v rest small =
     le-shift w (v % 256 ∷ []) (bytes w (v / 256) ++ rest) 0
     ∙ le-bytes w (v / 256) rest (div-lt-iff-lt-mul (zero-lt-suc 255) .1 (subst (λ (bound : ℕ). v < bound) (pow-succ' 256 w ∙ mul-comm 256 (256 ^ w)) small)) in
     omega (arith, high)
+
+pub take-bytes : (n : ℕ) (s : List ℕ) → AllBytes s → AllBytes (take n s)
+take-bytes zero s small i = lit< tt
+take-bytes (suc n) [] small i = lit< tt
+take-bytes (suc n) (x ∷ s) small zero = small 0
+take-bytes (suc n) (x ∷ s) small (suc i) = take-bytes n s (λ k. small (suc k)) i
+
+-- The lowest byte of a number, and what stands above it.
+low-byte : (a b : ℕ) → a < 256 → ((a + 256 * b) % 256 ≡ a) × ((a + 256 * b) / 256 ≡ b)
+low-byte a b small =
+    let high : (a + 256 * b) / 256 ≡ b = omega arith in
+    (omega arith, high)
+
+-- Writing back what was read.
+pub bytes-le : (w : ℕ) (s : List ℕ) (i : ℕ) → AllBytes s → i + w ≤ length s → bytes w (le w s i) ≡ take w (drop i s)
+unfolding le bytes
+bytes-le zero s i small fits = refl
+bytes-le (suc w) s i small fits =
+    let parts = low-byte (getD s i 0) (le w s (i + 1)) (small i) in
+    ap₂ (λ (b : ℕ) (l : List ℕ). b ∷ l) (parts .0)
+    (ap (bytes w) (parts .1) ∙ bytes-le w s (i + 1) small (omega arith) ∙ ap (λ (k : ℕ). take w (drop k s)) (add-one i))
+    ∙ ap (take (suc w)) (sym (drop-cons s i 0 (omega arith)))
+
+-- The number behind the first i bytes, written back behind them.
+pub bytes-more : (w : ℕ) (s : List ℕ) (i : ℕ) {front : List ℕ} {v : ℕ} → AllBytes s → i + w ≤ length s → front ≡ take i s → v ≡ le w s i
+    → front ++ bytes w v ≡ take (i + w) s
+bytes-more w s i small fits first is =
+    ap₂ (λ (f l : List ℕ). f ++ l) first (ap (bytes w) is ∙ bytes-le w s i small fits) ∙ sym (take-add i w s)
+
+-- A number of w bytes is below 256 ^ w.
+pub le-lt : (w : ℕ) (s : List ℕ) (i : ℕ) → AllBytes s → le w s i < 256 ^ w
+unfolding le
+le-lt zero s i small = lit< tt
+le-lt (suc w) s i small =
+    let low : getD s i 0 < 256 = small i in
+    let high : le w s (i + 1) < 256 ^ w = le-lt w s (i + 1) small in
+    let power : 256 ^ suc w ≡ 256 * 256 ^ w = pow-succ' 256 w in
+    omega arith
 
 -- A number in two parts.
 pub le-split : (a b : ℕ) (s : List ℕ) (i : ℕ) → le (a + b) s i ≡ le a s i + 256 ^ a * le b s (i + a)
@@ -280,6 +319,12 @@ module _ {s t : List ℕ} {pos : ℕ} {bs : List ℕ} {n : ℕ} (row : Row s t p
               ∙ ap (λ (p : ℕ). put (put s 0 bs) p vs) (sym (zero-add (length bs) ∙ row .size))
               ∙ put-put s 0 bs (omega (arith, row .size)) vs;
         }
+
+-- ---- parts of a list
+
+-- What `&s[k..]` holds.
+pub part-rest : (k : ℕ) (s : List ℕ) → take (length s - k) (drop k s) ≡ drop k s
+part-rest k s = take-all (length s - k) (drop k s) (le-of-eq (length-drop k s))
 
 -- ---- a list whose part from k on was lent, and came back as t
 

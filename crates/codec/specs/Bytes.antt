@@ -1,9 +1,13 @@
 -- Numbers in a list of bytes, the low byte first (document 01: stored numbers are little-endian), and a list with bytes put into it.
 use mathlib.Core.Bool.{Bool, true, false, cond}
 use mathlib.Core.List.{List, [], _∷_, _++_}
-use Prim.Native.Nat.{ℕ, zero, suc, _+_, _*_, _/_, _%_}
+use Prim.Native.Nat.{ℕ, zero, suc, _+_, _*_, _/_, _%_, _<_}
 use lib.Dec.{leb, eqb}
 use lib.ListN.{length, getD, take, drop}
+
+-- Every element is a byte.
+abbrev pub AllBytes : List ℕ → Type 0
+AllBytes s = (i : ℕ) → getD s i 0 < 256
 
 -- The number that the w bytes of s at i stand for.
 unfoldable pub le : ℕ → List ℕ → ℕ → ℕ
