@@ -1,0 +1,3 @@
+// Layer 3: what the metadata records share.
+pub mod meta;
+pub mod meta2;
