@@ -1,0 +1,102 @@
+-- The volume record of format 2, 64 bytes (document 01, "Volume record and pages", and its refusals of volume decode, table end and
+-- file length): what stands behind the base by offsets, the checks in their order, and the bytes as they are written.
+use mathlib.Core.Path.{_≡_}
+use mathlib.Core.Bool.{cond, not}
+use mathlib.Core.List.{List, _++_}
+use Prim.Native.Nat.{ℕ, _+_, _*_, _^_, _≤_, _<_}
+use lib.Dec.{leb, ltb, eqb}
+use lib.ListN.{length, getD, take}
+use Rattle.codec.specs.Bytes.{le16, le32, le64, bytes, bytes16, bytes32}
+use Rattle.codec.specs.Outcome.{Outcome, given, refusal, andThen}
+use Rattle.region.specs.Error.{errorNumber}
+use Rattle.region.specs.Block.{entriesPerPage}
+use Rattle.volume.specs.Base.{decodeBase, baseBytes, AcceptableBase}
+use Rattle.volume.specs.declared.meta.VolumeMeta.{VolumeMeta}
+use Rattle.volume.specs.declared.meta2.VolumeMeta2.{VolumeMeta2}
+use Rattle.volume.specs.declared.meta2.RawTail.{RawTail}
+use Rattle.volume.specs.declared.meta2.RawTailRead.{RawTailRead}
+use Rattle.volume.specs.declared.meta2.VolumeMeta2Read.{VolumeMeta2Read}
+use Rattle.volume.specs.declared.meta2.TableEnd.{TableEnd}
+
+-- 48 table pages; 52 entries per page; 54 clean mark; 56 flags; zeros at 55 and 60.
+abbrev pub rawTail : List ℕ → RawTail
+rawTail s =
+    record {
+      «table_pages» = le32 s 48;
+      «entries_per_page» = le16 s 52;
+      «clean_close» = getD s 54 0;
+      reserved0 = getD s 55 0;
+      flags = le32 s 56;
+      reserved1 = le32 s 60;
+    }
+
+unfoldable pub tailRead : List ℕ → RawTailRead
+tailRead s = cond (leb 64 (length s)) (RawTailRead.Fields (rawTail s)) RawTailRead.Truncated
+
+abbrev pub record2 : VolumeMeta → RawTail → VolumeMeta2
+record2 base t =
+    record {
+      base = base;
+      «table_pages» = t .«table_pages»;
+      «entries_per_page» = t .«entries_per_page»;
+      «clean_close» = eqb (t .«clean_close») 1;
+      flags = t .flags;
+    }
+
+-- 22 zeros at 55, 60; 25 offset not two blocks; 26 pages 0 or from 2^30; 27 entries; 28 clean mark above 1.
+unfoldable pub tailCheck : VolumeMeta → RawTail → Outcome VolumeMeta2
+tailCheck base t =
+    cond (not (eqb (t .reserved0) 0)) (refusal 22)
+    (cond (not (eqb (t .reserved1) 0)) (refusal 22)
+    (cond (not (eqb (base .«table_offset») (2 * 2 ^ base .«log2_block_size»))) (refusal 25)
+    (cond (eqb (t .«table_pages») 0) (refusal 26)
+    (cond (leb 0x4000_0000 (t .«table_pages»)) (refusal 26)
+    (cond (not (eqb (t .«entries_per_page») (entriesPerPage (base .«log2_table_slot_size»)))) (refusal 27)
+    (cond (ltb 1 (t .«clean_close»)) (refusal 28)
+    (given (record2 base t))))))))
+
+-- 11 not 64 bytes; 20 features; 21 flags; the base's checks; the others.
+unfoldable pub decodeVolume : List ℕ → Outcome VolumeMeta2
+decodeVolume s =
+    cond (not (eqb (length s) 64)) (refusal 11)
+    (cond (not (eqb (le64 s 32) 0)) (refusal 20)
+    (cond (not (eqb (le32 s 56) 0)) (refusal 21)
+    (andThen (decodeBase (take 48 s)) (λ base. tailCheck base (rawTail s)))))
+
+abbrev pub volumeOutcome : VolumeMeta2Read → Outcome VolumeMeta2
+volumeOutcome (VolumeMeta2Read.Record v) = given v
+volumeOutcome (VolumeMeta2Read.Refused error) = refusal (errorNumber error)
+
+unfoldable pub tailBytes : VolumeMeta2 → List ℕ
+tailBytes v =
+    bytes32 (v .«table_pages») ++ bytes16 (v .«entries_per_page») ++ bytes 1 (cond (v .«clean_close») 1 0) ++ bytes 1 0 ++ bytes32 (v .flags) ++ bytes32 0
+
+-- The record as it is written.
+unfoldable pub volumeBytes : VolumeMeta2 → List ℕ
+volumeBytes v = baseBytes (v .base) ++ tailBytes v
+
+-- What a record must hold to be decoded; each number then fits its width.
+pub record Acceptable (v : VolumeMeta2) : Type 0 where
+  pub base : AcceptableBase (v .base)
+  pub offset : v .base .«table_offset» ≡ 2 * 2 ^ v .base .«log2_block_size»
+  pub pages-low : 1 ≤ v .«table_pages»
+  pub pages-high : v .«table_pages» < 2 ^ 30
+  pub entries : v .«entries_per_page» ≡ entriesPerPage (v .base .«log2_table_slot_size»)
+  pub no-flags : v .flags ≡ 0
+
+-- 23 log2 block outside 12..16; 24 log2 table outside block..16; else two blocks and two table slots a page.
+unfoldable pub tableEnd : VolumeMeta2 → Outcome ℕ
+tableEnd v =
+    cond (ltb (v .base .«log2_block_size») 12) (refusal 23)
+    (cond (ltb 16 (v .base .«log2_block_size»)) (refusal 23)
+    (cond (ltb (v .base .«log2_table_slot_size») (v .base .«log2_block_size»)) (refusal 24)
+    (cond (ltb 16 (v .base .«log2_table_slot_size»)) (refusal 24)
+    (given (2 * 2 ^ v .base .«log2_block_size» + 2 * v .«table_pages» * 2 ^ v .base .«log2_table_slot_size»)))))
+
+abbrev pub endOutcome : TableEnd → Outcome ℕ
+endOutcome (TableEnd.At end) = given end
+endOutcome (TableEnd.Refused error) = refusal (errorNumber error)
+
+-- 26 end above file.
+unfoldable pub fileCheck : VolumeMeta2 → ℕ → Outcome (Unit {0})
+fileCheck v len = andThen (tableEnd v) (λ end. cond (ltb len end) (refusal 26) (given tt))
