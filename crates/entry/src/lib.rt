@@ -1,0 +1,2 @@
+// Layer 3: table entries.
+pub mod meta2;
