@@ -1,0 +1,4 @@
+pub mod EntryLaws
+pub mod ReadLaws
+pub mod WriteLaws
+pub mod PageLaws

@@ -1,0 +1,2 @@
+// Layer 3: table pages.
+pub mod meta2;
