@@ -1,19 +1,15 @@
--- Document 01's examples on the judge, computed from the definitions.
+-- Document 01's example of `verdicts`, and refusals of the judge in their order, computed from the definitions.
 use mathlib.Core.Path.{_≡_, refl}
 use mathlib.Core.Bool.{true, false}
 use mathlib.Core.List.{List, [], _∷_, _++_}
 use Prim.Native.Nat.{ℕ, _+_}
 use lib.ListN.{replicate}
 use Rattle.slot.specs.declared.slot.SlotIndex.{SlotIndex}
-use Rattle.frame.specs.declared.frame.SlotPart.{SlotPart}
 use Rattle.frame.specs.Frame.{partFrom}
 use Rattle.codec.specs.Bytes.{le}
-use Rattle.verdict.specs.declared.pairs.MetaSeq.{MetaSeq}
-use Rattle.verdict.specs.declared.pairs.Opposite.{Opposite}
 use Rattle.verdict.specs.declared.verdict.Heal.{Heal}
 use Rattle.judge.specs.declared.frames.Judged.{Judged}
 use Rattle.verdict.specs.Pairs.{numbered, badPayload, badHeader, blank, oppositeSlot, unsupported, newer, pairCase}
-use Rattle.verdict.specs.Numbers.{qualifies}
 use Rattle.verdict.specs.Judge.{firstVerdicts, firstTally, cleanMark, storeRules, demoted, healOf, writable, rowRules, verdicts, judgeRow}
 use Rattle.judge.specs.Frames.{pairFrom, partInRange, pairInRange, refusal, judged, judgedBytes}
 
@@ -49,31 +45,3 @@ pub refusal-examples : (refusal [] 2 1 ≡ 8) × (refusal (replicate 51 0xff) 2 
     × (refusal (replicate 52 0) 1 4 ≡ 0)
 unfolding refusal pairFrom partFrom le partInRange pairInRange
 refusal-examples = (refl, refl, refl, refl, refl, refl, refl)
-
--- ---- slots opposite a winner, and numbers
-
-abbrev valid : ℕ → ℕ → SlotPart
-valid generation number =
-    record { code = 12; facts = 0; generation = generation; «meta_seq» = number; «header_crc32c» = 7; «prev_header_crc32c» = 0 }
-
-abbrev blankSlot : SlotPart
-blankSlot = record { code = 2; facts = 0; generation = 0; «meta_seq» = 0; «header_crc32c» = 0; «prev_header_crc32c» = 0 }
-
--- A write after `valid 1`, its payload torn.
-abbrev torn : ℕ → SlotPart
-torn number = record { code = 11; facts = 2; generation = 2; «meta_seq» = number; «header_crc32c» = 8; «prev_header_crc32c» = 7 }
-
--- A of generation 1 beside a Blank B, B of generation 1 beside a Blank A, A of generation 2 beside a Blank B.
-pub blank-examples : (oppositeSlot SlotIndex.A (valid 1 1) blankSlot ≡ Opposite.Nothing)
-    × (oppositeSlot SlotIndex.B (valid 1 1) blankSlot ≡ Opposite.Damage)
-    × (oppositeSlot SlotIndex.A (valid 2 1) blankSlot ≡ Opposite.Damage)
-unfolding oppositeSlot blank
-blank-examples = (refl, refl, refl)
-
--- Number 4 and candidate 5 qualifies; 5 and 5, or 4 and 6, does not.
-pub number-examples : (oppositeSlot SlotIndex.A (valid 1 4) (torn 5) ≡ Opposite.Candidate (MetaSeq.Number 5))
-    × (qualifies (valid 1 4 ∷ torn 5 ∷ []) 1 (MetaSeq.Number 5) ≡ true)
-    × (qualifies (valid 1 5 ∷ torn 5 ∷ []) 1 (MetaSeq.Number 5) ≡ false)
-    × (qualifies (valid 1 4 ∷ torn 6 ∷ []) 1 (MetaSeq.Number 6) ≡ false)
-unfolding oppositeSlot badPayload numbered
-number-examples = (refl, refl, refl, refl)

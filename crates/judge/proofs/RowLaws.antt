@@ -8,17 +8,14 @@ use native.Mathlib.Nat.{sub-zero, sub-eq-zero-of-le, le-of-eq}
 use native.Mathlib.Omega.{arith}
 use lib.Dec.{eqb, leb}
 use lib.ListN.{length, take, drop, set, length-append, length-drop, drop-of-length-le}
-use lib.Seq.{drop-drop, take-all, take-at, length-take-le}
+use lib.Seq.{drop-drop, take-at, length-take-le}
 use borrow.Author.Tests.{eqb-true, eqb-false}
 use borrow.Rule.Slice.PartMut.{putMid}
+use Rattle.codec.proofs.CursorLaws.{part-rest}
 use Rattle.verdict.specs.declared.pairs.PairPart.{PairPart}
 use Rattle.verdict.specs.declared.verdict.PairVerdict.{PairVerdict}
 use Rattle.verdict.specs.Verdict.{verdictBytes}
 use Rattle.judge.specs.Frames.{frameWidth, verdictWidth, pairs, pairFrom, row, inRange, refusal}
-
--- What `&s[k..]` holds.
-pub part-rest : (k : ℕ) (s : List ℕ) → take (length s - k) (drop k s) ≡ drop k s
-part-rest k s = take-all (length s - k) (drop k s) (le-of-eq (length-drop k s))
 
 -- ---- the pairs from the ith on
 

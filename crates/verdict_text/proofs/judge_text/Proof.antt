@@ -4,9 +4,9 @@ use Prim.Native.Nat.{_-_, _*_}
 use native.Mathlib.Omega.{arith}
 use lib.ListN.{length-drop}
 use lib.Seq.{length-take-le}
+use Rattle.codec.proofs.CursorLaws.{part-rest}
 use borrow.Author.Needs.{needs}
 use denote.Ref.{now}
-use Rattle.judge.proofs.RowLaws.{part-rest}
 use Rattle.judge.specs.Frames.{frameWidth, verdictWidth}
 use Rattle.verdict_text.specs.Text.{lineCount}
 use Rattle.verdict_text.proofs.judge_text.Statement.{statement}

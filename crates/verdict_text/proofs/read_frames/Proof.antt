@@ -8,9 +8,9 @@ use lib.ListN.{length, take, drop, length-drop}
 use lib.Seq.{take-all}
 use borrow.Author.Tests.{not-true, not-false}
 use denote.Ref.{now}
+use Rattle.codec.proofs.CursorLaws.{part-rest}
 use Rattle.cases.proofs.HexLaws.{known-bytes, no-bytes}
 use Rattle.cases.specs.Hex.{bytesOf}
-use Rattle.judge.proofs.RowLaws.{part-rest}
 use Rattle.judge.specs.Frames.{frameWidth}
 use Rattle.verdict_text.specs.Text.{frameLine, frameOf, frameLines, joined}
 use Rattle.verdict_text.proofs.JudgeLaws.{frame-size, decoded-front}

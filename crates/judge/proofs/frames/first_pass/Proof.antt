@@ -6,11 +6,12 @@ use native.Mathlib.Omega.{arith}
 use lib.Dec.{eqb}
 use lib.ListN.{length-drop}
 use denote.Ref.{now}
+use Rattle.codec.proofs.CursorLaws.{part-rest}
 use borrow.Author.Needs.{needs}
 use borrow.Author.Tests.{ne-eqb}
 use Rattle.judge.specs.Frames.{row}
 use Rattle.verdict.specs.Passes.{tallies, noTally}
-use Rattle.judge.proofs.RowLaws.{part-rest, rowFrom, row-start, row-step, row-end}
+use Rattle.judge.proofs.RowLaws.{rowFrom, row-start, row-step, row-end}
 use Rattle.judge.proofs.frames.first_pass.Statement.{statement}
 use Rattle.judge.proofs.frames.first_pass.Tie as tie
 

@@ -4,10 +4,11 @@ use Prim.Native.Nat.{_≤_, _-_}
 use native.Mathlib.Omega.{arith}
 use lib.ListN.{length-drop}
 use denote.Ref.{now}
+use Rattle.codec.proofs.CursorLaws.{part-rest}
 use borrow.Author.Needs.{needs}
 use borrow.Author.Tests.{not-true, not-false}
 use Rattle.judge.specs.Frames.{row, inRange}
-use Rattle.judge.proofs.RowLaws.{part-rest, rowFrom, row-start, row-step, row-end}
+use Rattle.judge.proofs.RowLaws.{rowFrom, row-start, row-step, row-end}
 use Rattle.judge.proofs.frames.in_range.Statement.{statement}
 use Rattle.judge.proofs.frames.in_range.Tie as tie
 

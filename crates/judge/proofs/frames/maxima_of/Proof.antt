@@ -4,10 +4,11 @@ use Prim.Native.Nat.{_≤_, _-_, _*_}
 use native.Mathlib.Omega.{arith}
 use lib.ListN.{length-drop}
 use denote.Ref.{now}
+use Rattle.codec.proofs.CursorLaws.{part-rest}
 use Rattle.judge.specs.Frames.{row}
 use Rattle.verdict.specs.Numbers.{slots}
 use Rattle.verdict.specs.Maxima.{noteAll, noMaxima}
-use Rattle.judge.proofs.RowLaws.{part-rest, rowFrom, row-start, row-step, row-end}
+use Rattle.judge.proofs.RowLaws.{rowFrom, row-start, row-step, row-end}
 use Rattle.judge.proofs.frames.maxima_of.Statement.{statement}
 use Rattle.judge.proofs.frames.maxima_of.Tie as tie
 

@@ -1,7 +1,7 @@
 -- `pair_from` meets its contract: the part of B follows that of A.
+use Rattle.codec.proofs.CursorLaws.{part-rest}
 use borrow.Author.Needs.{needs}
 use Rattle.judge.specs.Frames.{pairFrom}
-use Rattle.judge.proofs.RowLaws.{part-rest}
 use Rattle.judge.proofs.frames.pair_from.Statement.{statement}
 use Rattle.judge.proofs.frames.pair_from.Tie as tie
 

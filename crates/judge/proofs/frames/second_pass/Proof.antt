@@ -9,6 +9,7 @@ use lib.Dec.{eqb}
 use lib.ListN.{length, take, length-drop}
 use lib.Seq.{take-all}
 use denote.Ref.{now}
+use Rattle.codec.proofs.CursorLaws.{part-rest}
 use borrow.Author.Needs.{needs}
 use borrow.Author.Tests.{ne-eqb}
 use Rattle.judge.specs.Frames.{row, verdictWidth}
@@ -16,7 +17,7 @@ use Rattle.verdict.specs.declared.verdict.Heal.{Heal}
 use Rattle.verdict.specs.Verdict.{verdictBytes}
 use Rattle.verdict.specs.Judge.{lastVerdicts, heal}
 use Rattle.verdict.specs.Passes.{verdictsBy}
-use Rattle.judge.proofs.RowLaws.{part-rest, rowFrom, row-start, row-step, row-end, written-length, written-step}
+use Rattle.judge.proofs.RowLaws.{rowFrom, row-start, row-step, row-end, written-length, written-step}
 use Rattle.judge.proofs.frames.second_pass.Statement.{statement}
 use Rattle.judge.proofs.frames.second_pass.Tie as tie
 
