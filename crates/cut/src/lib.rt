@@ -1,0 +1,1 @@
+// The cut theorem: specs/Cut.antt.
