@@ -20,6 +20,27 @@
  *    8  no pair
  *    9  verdicts of another length than four bytes a pair
  *   10  frames that are not a multiple of 52 bytes, a status code above 12, facts above 2, or a clean mark above 1
+ *   11  a record, page or entry of another length than its layout's, or a buffer too short for it
+ *   12  two entries of a page with one sequence number
+ *   13  an offset or a size that is not whole blocks
+ *   20  features, 21  flags: none are defined but two of an entry
+ *   22  a byte that must be zero
+ *   23  log2 of the block size outside 12 to 16
+ *   24  log2 of the table slot's size below that of the block or above 16
+ *   25  a table offset that is not two blocks
+ *   26  no table page, 2^30 or more, or a table that ends past the file
+ *   27  another number of entries per page than fit
+ *   28  a clean mark above 1
+ *   29  another page index than expected
+ *   30  a count of entries above the maximum or next_seq, or another than that of the entries given
+ *   31  a sequence number that is not below next_seq
+ *   32  log2 of the block size in the limits outside 12 to 16
+ *   33  a kind that is not 1, 2 or 3, 34  a state that is not Ready
+ *   35  bytes that are not a name
+ *   36  more data than capacity, 37  an empty span or one past the file, 38  a capacity above the span or of 0
+ *   39  a header outside the span or before the table's end, or both headers in one place
+ *   40  a footprint number of 0 or above the page's
+ *   41  a slot region with extents or sizes, 42  another region without an extent
  */
 #ifndef STORE_IO_H
 #define STORE_IO_H
@@ -138,6 +159,16 @@ uint32_t sio_decide(uint32_t a_status, uint64_t a_generation, uint32_t a_header_
                     uint32_t b_status, uint64_t b_generation, uint32_t b_header_crc32c, uint32_t b_prev_header_crc32c,
                     uint8_t (*report)[5]);
 
+/* The winner's payload: both slots of a pair are validated, and the payload of the slot that won is named as a part of its own
+ * bytes. The slots share volume id, object, log2 of the size, format and numbered; each has its offset. Returns the winner's
+ * slot (0 none, 1 A, 2 B), and all of the others is written: *start and *payload_len say where the payload lies in that slot
+ * (0 and 0 without a winner); *values_a and *values_b are as *found of sio_validate; *report holds the status codes of A and of
+ * B, and then bytes 0 to 3 of *report of sio_decide. */
+uint32_t sio_winner_payload(const uint8_t *a, size_t a_len, const uint8_t *b, size_t b_len, uint64_t volume0,
+                            uint64_t volume1, uint64_t object_id, uint64_t a_offset, uint64_t b_offset,
+                            uint8_t log2_slot_size, uint16_t format_major, uint32_t numbered, uint64_t (*values_a)[9],
+                            uint64_t (*values_b)[9], uint8_t (*report)[6], size_t *start, size_t *payload_len);
+
 /* ---- The store ---- */
 
 /* Judges a whole store from its frames, 52 bytes a pair: the parts of slot A and of slot B, as sio_frame_slot fills them. Pair
@@ -153,6 +184,106 @@ uint32_t sio_decide(uint32_t a_status, uint64_t a_generation, uint32_t a_header_
  */
 uint32_t sio_judge(const uint8_t *frames, size_t frames_len, uint8_t clean, uint8_t *verdicts, size_t verdicts_len,
                    uint64_t (*judgement)[5]);
+
+/* ---- Region names ----
+ *
+ * A name is 1 to 24 bytes of UTF-8 (RFC 3629) without a zero byte, stored in 24 bytes with zeros behind it. Bytes that are
+ * none are refused with 35, and *stored and *stored_len are as they were.
+ */
+
+/* Stores a name and gives its length. */
+uint32_t sio_region_name(const uint8_t *name, size_t name_len, uint8_t (*stored)[24], uint8_t *stored_len);
+
+/* The same from 24 stored bytes: the name ends at the first zero, and all behind it is zero. */
+uint32_t sio_region_name_padded(const uint8_t (*raw)[24], uint8_t (*stored)[24], uint8_t *stored_len);
+
+/* ---- The volume record ---- */
+
+/* Decodes a record of 64 bytes. 0 with all of *found written, or a refusal in this order: 11 (not 64 bytes), 20, 21, 22 (at 4
+ * and 40), 23, 24, 13, 22 (at 55 and 60), 25, 26, 27, 28. found: log2 of the block size, log2 of the table slot's size, device
+ * index, owner generation, table offset, created, features, table pages, entries per page, clean mark, flags. */
+uint32_t sio_volume_decode(const uint8_t *bytes, size_t len, uint64_t (*found)[11]);
+
+/* Encodes a record into the first 64 bytes of bytes, any clean_close but 0 as 1: 0 with 64 in *written, or 11 for a shorter
+ * buffer. */
+uint32_t sio_volume_encode(uint8_t *bytes, size_t len, uint8_t log2_block_size, uint8_t log2_table_slot_size,
+                           uint16_t device_index, uint64_t owner_generation, uint64_t table_offset,
+                           uint64_t created_unix_s, uint64_t features, uint32_t table_pages, uint16_t entries_per_page,
+                           uint32_t clean_close, uint32_t flags, size_t *written);
+
+/* The 48 bytes that both formats have, from a buffer of 48 bytes or more: 0 with the first seven of those numbers in *found,
+ * or 11 (below 48 bytes), 20, 22, 23, 24, 13. */
+uint32_t sio_volume_base_decode(const uint8_t *bytes, size_t len, uint64_t (*found)[7]);
+
+/* Encodes them into the first 48 bytes: 0 with 48 in *written, or 11 for a shorter buffer. */
+uint32_t sio_volume_base_encode(uint8_t *bytes, size_t len, uint8_t log2_block_size, uint8_t log2_table_slot_size,
+                                uint16_t device_index, uint64_t owner_generation, uint64_t table_offset,
+                                uint64_t created_unix_s, uint64_t features, size_t *written);
+
+/* Entries of a page in a table slot of that size; a log2 outside 12 to 16 counts as the nearer end. */
+uint32_t sio_entries_per_page(uint8_t log2_table);
+
+/* Where the table ends: 0 with two blocks and two table slots a page in *end, or 23, 24. */
+uint32_t sio_table_end(uint8_t log2_block_size, uint8_t log2_table_slot_size, uint32_t table_pages, uint64_t *end);
+
+/* 0 where the table ends within a file of that length, or 23, 24, 26. */
+uint32_t sio_check_file_len(uint8_t log2_block_size, uint8_t log2_table_slot_size, uint32_t table_pages,
+                            uint64_t file_len);
+
+/* ---- Table pages ---- */
+
+/* Decodes a page with its expected index and the most entries that it may have. 0 with all of *found written, or a refusal in
+ * this order: 11 (below 24 bytes), 22, 29, 30, 11 (length), then by entry 31, 22 (at 38), 12. found: page index, next_seq,
+ * count, and where the entries begin in bytes and how long they are, 96 bytes each. */
+uint32_t sio_decode_page(const uint8_t *bytes, size_t len, uint32_t page_index, uint16_t max_entries,
+                         uint64_t (*found)[5]);
+
+/* Encodes a page from its entries, 96 bytes each, as they are but for zeros at 38: 0 with the page's length in *written, or 11
+ * (over 65,535 entries, or a rest below 96 bytes), 30 (count), 11 (bytes too short). What lies behind the page stays. */
+uint32_t sio_encode_page(uint8_t *bytes, size_t len, uint32_t page_index, uint32_t next_seq, uint16_t count,
+                         const uint8_t *entries, size_t entries_len, size_t *written);
+
+/* ---- Table entries ----
+ *
+ * An entry is taken from the first 96 bytes of entry; fewer are refused with 11, before everything else.
+ */
+
+/* An entry's fields, checked or not: 0 with all of *found and *name written. found: seq, kind, state, flags, compatible
+ * flags, tag, extents, the two reserved bytes at 38, header A, header B, data size, capacity, span start, span end, footprint
+ * number. */
+uint32_t sio_read_entry(const uint8_t *entry, size_t len, uint64_t (*found)[15], uint8_t (*name)[24]);
+
+/* Writes an entry's fields to the first 96 bytes, zeros at 38: 0 with 96 in *written, or 11 for a shorter buffer. */
+uint32_t sio_write_entry(uint8_t *bytes, size_t len, uint32_t seq, uint8_t kind, uint8_t state, uint8_t flags,
+                         uint8_t compat_flags, const uint8_t (*name)[24], uint32_t tag, uint16_t extent_count,
+                         uint64_t header_a, uint64_t header_b, uint64_t data_size, uint64_t capacity,
+                         uint64_t span_start, uint64_t span_end, uint64_t footprint_seq, size_t *written);
+
+/* Checks an entry by itself, in a container of blocks of 2^log2_block bytes whose table ends at table_end, of file_len bytes,
+ * from a page with the number page_meta_seq. 0 with all of *found, *name and *name_len written, or a refusal in this order:
+ * 21, 32, 33, 34, 35, 36, 37, 38, 13 (span), for header A and then B 13, 39, then 39 (equal), 40, 41 or 42 and 38, 13 (sizes).
+ * found: seq, kind (1 append, 2 page, 3 slot), flags, compatible flags, tag, extents, header A, header B, data size, capacity,
+ * span start, span end, footprint number. */
+uint32_t sio_check_entry(const uint8_t *entry, size_t len, uint8_t log2_block, uint64_t table_end, uint64_t file_len,
+                         uint64_t page_meta_seq, uint64_t (*found)[13], uint8_t (*name)[24], uint8_t *name_len);
+
+/* The same checks, and the accepted entry as it is stored in *raw. */
+uint32_t sio_entry_to_raw(const uint8_t *entry, size_t len, uint8_t log2_block, uint64_t table_end, uint64_t file_len,
+                          uint64_t page_meta_seq, uint8_t (*raw)[96]);
+
+/* The entry's name where it decodes, whatever else fails: 0 with its length in *name_len, 0 where there is none, and all of
+ * *name written, zeros behind the name. */
+uint32_t sio_entry_name(const uint8_t *entry, size_t len, uint8_t (*name)[24], uint8_t *name_len);
+
+/* Name and kind where both decode: *kind is 1, 2 or 3, or 0 where one does not, and then there is no name. */
+uint32_t sio_entry_name_and_kind(const uint8_t *entry, size_t len, uint8_t *kind, uint8_t (*name)[24],
+                                 uint8_t *name_len);
+
+/* The bytes that an entry keeps reserved although it fails its checks: its span widened to whole blocks, then clamped to the
+ * file and to past the table. 0 with start and end in *span, both 0 where nothing is left; a log2_block outside 12 to 16
+ * counts as the nearer end. */
+uint32_t sio_reserved_span(const uint8_t *entry, size_t len, uint8_t log2_block, uint64_t table_end, uint64_t file_len,
+                           uint64_t (*span)[2]);
 
 #ifdef __cplusplus
 }

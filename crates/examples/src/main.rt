@@ -3,6 +3,7 @@ use libc::STDOUT_FILENO;
 
 fn main() {
     number_zero();
+    count_above_next_seq();
 }
 
 // Format 2 with number 0 is written, and read as numbered is 7 (Malformed). Read as not numbered it is 12 (Valid).
@@ -32,6 +33,15 @@ fn number_zero() {
     show(b"the same read as numbered, status", numbered, 7);
     let plain = store_io::slots::sio_validate(&slot, 1, 2, 3, 8192, 0, 9, 2, 0, &mut found);
     show(b"the same read as not numbered, status", plain, 12);
+}
+
+// A page of count 1 with next seq 0 is refused with 30.
+fn count_above_next_seq() {
+    let mut page = [0u8; 120];
+    let mut found = [0u64; 5];
+    page[8] = 1;
+    let refusal = store_io::pages::sio_decode_page(&page, 0, 41, &mut found);
+    show(b"count 1 with next seq 0, refusal", refusal, 30);
 }
 
 // A line: what is looked at, what was found and what is expected.

@@ -4,7 +4,7 @@ use Prim.Native.Nat.{ℕ}
 use Rattle.verdict.specs.declared.verdict.Heal.{Heal}
 use Rattle.verdict.specs.declared.verdict.Judgement.{Judgement}
 use Rattle.judge.specs.declared.frames.Judged.{Judged}
-use Rattle.store_io.specs.Pairs.{slotNumber, flag}
+use Rattle.winner.specs.Winner.{slotNumber, flag}
 
 abbrev pub healSlot : Heal → ℕ
 healSlot Heal.Nothing = 0

@@ -1,5 +1,4 @@
--- A pair as a C host hands it over, and the report that it finds. Winners have the numbers of document 01's standings, and behind them
--- 4 Empty and 5 Fork; a slot is 0 none, 1 A, 2 B.
+-- A pair as a C host hands it over, and the report that it finds.
 use mathlib.Core.Bool.{Bool, true, false, cond}
 use mathlib.Core.List.{List, [], _∷_}
 use Prim.Native.Nat.{ℕ}
@@ -8,7 +7,7 @@ use Rattle.slot.specs.declared.slot.SlotIndex.{SlotIndex}
 use Rattle.slot.specs.declared.slot.SlotInfo.{SlotInfo}
 use Rattle.slot.specs.declared.slot.SlotStatus.{SlotStatus}
 use Rattle.pair.specs.Pair.{nextWrite}
-use Rattle.pair.specs.declared.pair.Winner.{Winner}
+use Rattle.winner.specs.Winner.{winnerNumber, slotNumber, winnerSlot, flag}
 use Rattle.pair.specs.declared.pair.PairReport.{PairReport}
 use Rattle.pair.specs.declared.pair.NextWrite.{NextWrite}
 
@@ -48,33 +47,9 @@ statusOf c generation crc prev =
 abbrev pub decideRefusal : ℕ → ℕ → ℕ
 decideRefusal a b = cond (ltb 12 a) 10 (cond (ltb 12 b) 10 0)
 
-abbrev pub winnerNumber : Winner → ℕ
-winnerNumber (Winner.Confirmed index) = 0
-winnerNumber (Winner.Unconfirmed index) = 1
-winnerNumber Winner.Lost = 2
-winnerNumber Winner.Refused = 3
-winnerNumber Winner.Empty = 4
-winnerNumber Winner.Fork = 5
-
-abbrev pub slotNumber : SlotIndex → ℕ
-slotNumber SlotIndex.A = 1
-slotNumber SlotIndex.B = 2
-
-abbrev pub winnerSlot : Winner → ℕ
-winnerSlot (Winner.Confirmed index) = slotNumber index
-winnerSlot (Winner.Unconfirmed index) = slotNumber index
-winnerSlot Winner.Lost = 0
-winnerSlot Winner.Refused = 0
-winnerSlot Winner.Empty = 0
-winnerSlot Winner.Fork = 0
-
 abbrev pub nextNumber : NextWrite → ℕ
 nextNumber (NextWrite.Slot index) = slotNumber index
 nextNumber NextWrite.Nothing = 0
-
-abbrev pub flag : Bool → ℕ
-flag true = 1
-flag false = 0
 
 unfoldable pub reportBytes : PairReport → List ℕ
 reportBytes r =

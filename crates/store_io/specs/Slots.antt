@@ -9,7 +9,6 @@ use Rattle.codec.specs.Bytes.{bytes64}
 use Rattle.slot.specs.declared.slot.SlotIndex.{SlotIndex}
 use Rattle.slot.specs.declared.slot.SlotFields.{SlotFields}
 use Rattle.slot.specs.declared.slot.Expect.{Expect}
-use Rattle.slot.specs.declared.slot.SlotStatus.{SlotStatus}
 use Rattle.slot.specs.declared.slot.HeaderFacts.{HeaderFacts}
 
 unfoldable pub volumeId : ℕ → ℕ → List ℕ
@@ -48,23 +47,6 @@ expectOf volume0 volume1 object offset index log2 format numbered =
       «format_major» = format;
       numbered = isYes numbered;
     }
-
--- The values that go with a status, zeros behind them.
-abbrev pub statusValues : SlotStatus → List ℕ
-statusValues SlotStatus.ReadError = replicate 9 0
-statusValues SlotStatus.BadLength = replicate 9 0
-statusValues SlotStatus.Blank = replicate 9 0
-statusValues SlotStatus.BadMagic = replicate 9 0
-statusValues SlotStatus.BadHeaderCrc = replicate 9 0
-statusValues (SlotStatus.UnsupportedVersion major) = major ∷ replicate 8 0
-statusValues (SlotStatus.Incompatible flags) = flags ∷ replicate 8 0
-statusValues SlotStatus.Malformed = replicate 9 0
-statusValues SlotStatus.Foreign = replicate 9 0
-statusValues SlotStatus.WrongObject = replicate 9 0
-statusValues SlotStatus.Misplaced = replicate 9 0
-statusValues SlotStatus.BadPayloadCrc = replicate 9 0
-statusValues (SlotStatus.Valid i) =
-    i .generation ∷ i .«owner_generation» ∷ i .«header_crc32c» ∷ i .«prev_header_crc32c» ∷ i .«ro_compat_flags» ∷ i .«compat_flags» ∷ i .«meta_seq» ∷ i .«payload_start» ∷ i .«payload_len» ∷ []
 
 -- Stored checksum, generation, number, previous checksum; zeros for those not shown.
 abbrev pub factsValues : HeaderFacts → List ℕ

@@ -7,7 +7,7 @@ ghost use mathlib.Core.Path.{_≡_};
 ghost use lib.ListN.{length};
 ghost use Rattle.judge.specs.Frames.{judged, judgedBytes};
 ghost use Rattle.store_io.specs.Judging.{judgedRefusal, judgementOr, judgementValues, healSlot, healPair};
-ghost use Rattle.store_io.specs.Pairs.{slotNumber, flag};
+ghost use Rattle.winner.specs.Winner.{slotNumber, flag};
 
 // Judges a whole store from its frames.
 #[no_mangle]

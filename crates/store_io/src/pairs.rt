@@ -1,14 +1,12 @@
 // Pairs for C hosts.
 use pair::pair::NextWrite;
 use pair::pair::PairReport;
-use pair::pair::Winner;
-use slot::slot::SlotIndex;
 use slot::slot::SlotInfo;
 use slot::slot::SlotStatus;
 ghost use mathlib.Core.Path.{_≡_};
 ghost use Prim.Native.Nat.{_≤_};
 ghost use Rattle.pair.specs.Pair.{decide};
-ghost use Rattle.store_io.specs.Pairs.{statusOf, decideRefusal, decideReport, reportBytes, winnerNumber, winnerSlot, slotNumber, nextNumber, flag};
+ghost use Rattle.store_io.specs.Pairs.{statusOf, decideRefusal, decideReport, reportBytes, nextNumber};
 
 // The current version of a pair.
 #[no_mangle]
@@ -84,63 +82,19 @@ fn report_bytes(report: PairReport) -> [u8; 5]
 {
     let winner = report.winner;
     [
-        winner_number(winner),
-        winner_slot(winner),
-        flag(report.generation_gap),
-        flag(report.chain_break),
+        winner::winner_number(winner),
+        winner::winner_slot(winner),
+        winner::flag(report.generation_gap),
+        winner::flag(report.chain_break),
         next_number(report.next_write()),
     ]
-}
-
-fn winner_number(winner: Winner) -> u8
-    ensures { λ r. ⌜ r ≡ winnerNumber winner ⌝ }
-{
-    match winner {
-        Winner::Confirmed(_) => 0,
-        Winner::Unconfirmed(_) => 1,
-        Winner::Lost => 2,
-        Winner::Refused => 3,
-        Winner::Empty => 4,
-        Winner::Fork => 5,
-    }
-}
-
-fn winner_slot(winner: Winner) -> u8
-    ensures { λ r. ⌜ r ≡ winnerSlot winner ⌝ }
-{
-    match winner {
-        Winner::Confirmed(index) => slot_number(index),
-        Winner::Unconfirmed(index) => slot_number(index),
-        Winner::Lost => 0,
-        Winner::Refused => 0,
-        Winner::Empty => 0,
-        Winner::Fork => 0,
-    }
-}
-
-fn slot_number(index: SlotIndex) -> u8
-    ensures { λ r. ⌜ r ≡ slotNumber index ⌝ }
-{
-    match index {
-        SlotIndex::A => 1,
-        SlotIndex::B => 2,
-    }
 }
 
 fn next_number(next: NextWrite) -> u8
     ensures { λ r. ⌜ r ≡ nextNumber next ⌝ }
 {
     match next {
-        NextWrite::Slot(index) => slot_number(index),
+        NextWrite::Slot(index) => winner::slot_number(index),
         NextWrite::Nothing => 0,
     }
-}
-
-fn flag(set: bool) -> u8
-    ensures { λ r. ⌜ r ≡ flag set ⌝ }
-{
-    if set {
-        return 1;
-    }
-    0
 }

@@ -6,7 +6,6 @@ use slot::slot::Expect;
 use slot::slot::HeaderFacts;
 use slot::slot::SlotFields;
 use slot::slot::SlotIndex;
-use slot::slot::SlotStatus;
 ghost use mathlib.Core.Path.{_≡_};
 ghost use mathlib.Core.List.{_++_};
 ghost use Rattle.codec.specs.Bytes.{bytes64};
@@ -14,7 +13,8 @@ ghost use Rattle.slot.specs.Status.{code, factsNumber};
 ghost use Rattle.slot.specs.Read.{validate, headerFacts};
 ghost use Rattle.slot.specs.Write.{encode, encodedBytes};
 ghost use Rattle.frame.specs.Frame.{partOf, partBytes};
-ghost use Rattle.store_io.specs.Slots.{volumeId, indexOf, isYes, fieldsOf, expectOf, statusValues, factsValues};
+ghost use Rattle.winner.specs.Winner.{statusValues};
+ghost use Rattle.store_io.specs.Slots.{volumeId, indexOf, isYes, fieldsOf, expectOf, factsValues};
 ghost use Rattle.store_io.specs.Host.{outcomeRefusal, outcomeOr};
 ghost use Rattle.encode.specs.Encoded.{errorNumber};
 
@@ -91,7 +91,7 @@ pub extern "C" fn sio_validate(
         numbered,
     );
     let status = slot::slot::validate(slot, e);
-    *found = status_values(status);
+    *found = winner::status_values(status);
     status.code() as u32
 }
 
@@ -193,7 +193,8 @@ fn index_of(index: u32) -> SlotIndex
     SlotIndex::B
 }
 
-fn expect_of(
+// What a slot is read with.
+pub fn expect_of(
     volume0: u64,
     volume1: u64,
     object_id: u64,
@@ -225,36 +226,6 @@ fn error_number(error: EncodeError) -> u32
         EncodeError::PayloadTooLarge => 3,
         EncodeError::ZeroGeneration => 4,
         EncodeError::Format => 5,
-    }
-}
-
-fn status_values(status: SlotStatus) -> [u64; 9]
-    ensures { λ r. ⌜ r ≡ statusValues status ⌝ }
-{
-    match status {
-        SlotStatus::ReadError => [0; 9],
-        SlotStatus::BadLength => [0; 9],
-        SlotStatus::Blank => [0; 9],
-        SlotStatus::BadMagic => [0; 9],
-        SlotStatus::BadHeaderCrc => [0; 9],
-        SlotStatus::UnsupportedVersion { major } => [major as u64, 0, 0, 0, 0, 0, 0, 0, 0],
-        SlotStatus::Incompatible { flags } => [flags as u64, 0, 0, 0, 0, 0, 0, 0, 0],
-        SlotStatus::Malformed => [0; 9],
-        SlotStatus::Foreign => [0; 9],
-        SlotStatus::WrongObject => [0; 9],
-        SlotStatus::Misplaced => [0; 9],
-        SlotStatus::BadPayloadCrc => [0; 9],
-        SlotStatus::Valid(info) => [
-            info.generation,
-            info.owner_generation,
-            info.header_crc32c as u64,
-            info.prev_header_crc32c as u64,
-            info.ro_compat_flags as u64,
-            info.compat_flags as u64,
-            info.meta_seq,
-            info.payload_start as u64,
-            info.payload_len as u64,
-        ],
     }
 }
 

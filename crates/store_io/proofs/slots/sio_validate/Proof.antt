@@ -2,7 +2,7 @@
 use mathlib.Core.Path.{ap, _∙_}
 use Rattle.slot.specs.Status.{code}
 use Rattle.slot.specs.Read.{validate}
-use Rattle.store_io.specs.Slots.{statusValues}
+use Rattle.winner.specs.Winner.{statusValues}
 use borrow.Author.Needs.{needs}
 use Rattle.store_io.proofs.slots.sio_validate.Statement.{statement}
 use Rattle.store_io.proofs.slots.sio_validate.Tie as tie
