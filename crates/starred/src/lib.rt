@@ -1,0 +1,1 @@
+// Document 01's starred examples: proofs/Starred.antt.
