@@ -30,8 +30,31 @@ static const function functions[] = {
     (function)&sio_frame_slot,
 
     (function)&sio_decide,
+    (function)&sio_winner_payload,
 
     (function)&sio_judge,
+
+    (function)&sio_region_name,
+    (function)&sio_region_name_padded,
+
+    (function)&sio_volume_decode,
+    (function)&sio_volume_encode,
+    (function)&sio_volume_base_decode,
+    (function)&sio_volume_base_encode,
+    (function)&sio_entries_per_page,
+    (function)&sio_table_end,
+    (function)&sio_check_file_len,
+
+    (function)&sio_decode_page,
+    (function)&sio_encode_page,
+
+    (function)&sio_read_entry,
+    (function)&sio_write_entry,
+    (function)&sio_check_entry,
+    (function)&sio_entry_to_raw,
+    (function)&sio_entry_name,
+    (function)&sio_entry_name_and_kind,
+    (function)&sio_reserved_span,
 };
 
 int main(void) {

@@ -1,6 +1,7 @@
-//! Measures the reference and ours on the same inputs: the checksum, slots written and read, and stores judged.
+//! Measures the reference and ours on the same inputs: the checksum, slots written and read, stores judged, and metadata.
 
 use crate::bench_judge;
+use crate::bench_meta;
 use crate::bench_slots;
 use crate::bytestep;
 use crate::crc32c::crc32c;
@@ -68,7 +69,11 @@ pub fn run() -> ExitCode {
         && bench_slots::ENCODE.measure()
         && bench_slots::VALIDATE.measure()
         && bench_slots::HEADER_FACTS.measure()
-        && bench_judge::JUDGE.measure();
+        && bench_judge::JUDGE.measure()
+        && bench_meta::VOLUME_DECODE.measure()
+        && bench_meta::DECODE_PAGE.measure()
+        && bench_meta::ENCODE_PAGE.measure()
+        && bench_meta::CHECK_ENTRY.measure();
     if agree {
         ExitCode::SUCCESS
     } else {

@@ -77,8 +77,10 @@ impl Counts {
     }
 
     pub fn print(&self) {
-        for ((function, answer), count) in self.cases.iter().chain(&self.parts) {
-            println!("{function:<20} {answer:<28} {count:>10}");
+        let met = || self.cases.iter().chain(&self.parts);
+        let width = met().map(|((function, _), _)| function.len()).max().unwrap_or(0);
+        for ((function, answer), count) in met() {
+            println!("{function:<width$} {answer:<28} {count:>10}");
         }
     }
 

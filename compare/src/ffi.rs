@@ -1,4 +1,5 @@
-//! The functions of include/store_io.h, each behind a safe function.
+//! The functions of include/store_io.h, each behind a safe function. That for a pair's payload is in ffi_pair.rs,
+//! those for metadata are in ffi_volume.rs and ffi_table.rs.
 //!
 //! Buffers and numbers are lent as `Cell`s: a wrong callee may write to any of them.
 
@@ -136,9 +137,9 @@ pub struct Side {
     pub prev_header_crc32c: u32,
 }
 
-type Bytes = [Cell<u8>];
+pub type Bytes = [Cell<u8>];
 
-fn address(bytes: &Bytes) -> *mut u8 {
+pub fn address(bytes: &Bytes) -> *mut u8 {
     bytes.as_ptr().cast::<u8>().cast_mut()
 }
 

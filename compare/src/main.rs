@@ -1,4 +1,4 @@
-//! Compares the functions of libstore_io.a with the Rust reference, and measures both.
+//! Compares the functions of libstore_io.a with the Rust reference, tries the cut theorem on them, and measures both.
 
 #[path = "../../docs/src/crates/store-io-format/src/codec.rs"]
 #[allow(dead_code)]
@@ -12,6 +12,14 @@ mod crc32c;
 #[allow(dead_code)]
 #[rustfmt::skip]
 mod judge;
+#[path = "../../docs/src/crates/store-io-format/src/meta.rs"]
+#[allow(dead_code)]
+#[rustfmt::skip]
+mod meta;
+#[path = "../../docs/src/crates/store-io-format/src/meta2.rs"]
+#[allow(dead_code)]
+#[rustfmt::skip]
+mod meta2;
 #[path = "../../docs/src/crates/store-io-format/src/pair.rs"]
 #[allow(dead_code)]
 #[rustfmt::skip]
@@ -29,14 +37,26 @@ mod bytestep_slot;
 
 mod bench;
 mod bench_judge;
+mod bench_meta;
 mod bench_slots;
 mod bytestep;
 mod checksum;
 mod counts;
 mod cursor;
+mod cut_records;
+mod cut_store;
+mod cuts;
+mod cutting;
 mod encoding;
+mod entries;
+mod entries_sweep;
+mod entry_faults;
+mod entry_sample;
 mod faults;
 mod ffi;
+mod ffi_pair;
+mod ffi_table;
+mod ffi_volume;
 mod frames;
 mod judge_reference;
 mod judging;
@@ -46,16 +66,30 @@ mod list;
 mod list_codec;
 mod list_judge;
 mod list_slots;
+mod meta_reference;
+mod name_sample;
+mod names;
+mod outcome;
+mod page_sample;
+mod pages;
+mod pages_sweep;
 mod pairs;
 mod part;
+mod places;
 mod reference;
 mod rng;
 mod sample;
 mod slot_reference;
 mod slots;
 mod slots_sweep;
+mod stored;
+mod table_reference;
 mod value;
 mod verdicts;
+mod volume_sample;
+mod volumes;
+mod volumes_sweep;
+mod winners;
 
 use counts::Counts;
 use part::{Checked, Part, Run};
@@ -63,18 +97,34 @@ use rng::Rng;
 use std::process::ExitCode;
 use std::time::{SystemTime, UNIX_EPOCH};
 
-/// The compared parts. A further part has a module with its `PART`, its functions in ffi.rs and header.c, its reference
-/// in a module above, and its cases in a list.
-const PARTS: &[Part] = &[checksum::PART, cursor::PART, encoding::PART, slots::PART, pairs::PART, judging::PART];
+/// The compared parts. A further part has a module with its `PART`, its functions in an ffi module and header.c, its
+/// reference in a module above, and its cases in a list.
+const PARTS: &[Part] = &[
+    checksum::PART,
+    cursor::PART,
+    encoding::PART,
+    slots::PART,
+    pairs::PART,
+    winners::PART,
+    judging::PART,
+    names::PART,
+    volumes::PART,
+    pages::PART,
+    entries::PART,
+];
 
 const QUICK_SEED: u64 = 0x5106_2026;
 const QUICK_ROUNDS: u64 = 100_000;
 const LONG_ROUNDS: u64 = 1_000_000;
 
+const QUICK_CUTS: u64 = 1_000_000;
+const LONG_CUTS: u64 = 40_000_000;
+
 const QUICK_RUNS: u64 = 300;
 const LONG_RUNS: u64 = 3_000;
 
-const USAGE: &str = "usage: compare quick | long [SEED] | verdicts PROGRAM [SEED] | list codec|slots|judge | bench";
+const USAGE: &str = "usage: compare quick | long [SEED] | cuts [long [SEED]] | verdicts PROGRAM [SEED] | \
+    list codec|slots|judge | bench";
 
 const BAD_SEED: &str = "SEED is a number, decimal or hex with 0x";
 
@@ -86,6 +136,12 @@ fn main() -> ExitCode {
         ["long"] => compare(clock_seed(), LONG_ROUNDS),
         ["long", seed] => match parse_seed(seed) {
             Some(seed) => compare(seed, LONG_ROUNDS),
+            None => fail(BAD_SEED),
+        },
+        ["cuts"] => cuts::run(QUICK_SEED, QUICK_CUTS),
+        ["cuts", "long"] => cuts::run(clock_seed(), LONG_CUTS),
+        ["cuts", "long", seed] => match parse_seed(seed) {
+            Some(seed) => cuts::run(seed, LONG_CUTS),
             None => fail(BAD_SEED),
         },
         ["verdicts", program] => verdicts::run(program, QUICK_SEED, QUICK_RUNS),

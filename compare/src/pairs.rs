@@ -11,7 +11,7 @@ const DECIDE: &str = "sio_decide";
 
 const STATUS_ABOVE_12: u32 = 10;
 
-const ANSWERS: &[Answer] = &[
+pub const DECISIONS: &[Answer] = &[
     Answer::Decision("Confirmed A"),
     Answer::Decision("Confirmed A, gap"),
     Answer::Decision("Confirmed A, break"),
@@ -24,10 +24,13 @@ const ANSWERS: &[Answer] = &[
     Answer::Decision("Refused"),
     Answer::Decision("Empty"),
     Answer::Decision("Fork"),
-    Answer::Refusal(STATUS_ABOVE_12),
 ];
 
-pub const PART: Part = Part { functions: &[Function::new(DECIDE, ANSWERS)], sweep, round };
+pub const PART: Part = Part {
+    functions: &[Function::new(DECIDE, DECISIONS), Function::new(DECIDE, &[Answer::Refusal(STATUS_ABOVE_12)])],
+    sweep,
+    round,
+};
 
 const VALID: u32 = 12;
 
@@ -124,7 +127,7 @@ fn random_status(rng: &mut Rng) -> u32 {
     }
 }
 
-fn random_neighbour(rng: &mut Rng, generation: u64) -> u64 {
+pub fn random_neighbour(rng: &mut Rng, generation: u64) -> u64 {
     match rng.below(8) {
         0 => rng.any(),
         1 => generation,
@@ -148,14 +151,21 @@ fn compare(run: &mut Run, a: &Side, b: &Side) -> Checked {
 }
 
 fn answer(report: Option<[u8; 5]>) -> Answer {
-    let Some(report) = report else { return Answer::Refusal(STATUS_ABOVE_12) };
+    match report {
+        Some([kind, winner, gap, broken, _]) => decision([kind, winner, gap, broken]),
+        None => Answer::Refusal(STATUS_ABOVE_12),
+    }
+}
+
+/// The answer of a report's kind, winner, gap and break.
+pub fn decision(report: [u8; 4]) -> Answer {
     Answer::Decision(match report {
-        [0, 1, 0, 0, _] => "Confirmed A",
-        [0, 1, 1, 0, _] => "Confirmed A, gap",
-        [0, 1, 0, 1, _] => "Confirmed A, break",
-        [0, 2, 0, 0, _] => "Confirmed B",
-        [0, 2, 1, 0, _] => "Confirmed B, gap",
-        [0, 2, 0, 1, _] => "Confirmed B, break",
+        [0, 1, 0, 0] => "Confirmed A",
+        [0, 1, 1, 0] => "Confirmed A, gap",
+        [0, 1, 0, 1] => "Confirmed A, break",
+        [0, 2, 0, 0] => "Confirmed B",
+        [0, 2, 1, 0] => "Confirmed B, gap",
+        [0, 2, 0, 1] => "Confirmed B, break",
         [1, 1, ..] => "Unconfirmed A",
         [1, 2, ..] => "Unconfirmed B",
         [2, ..] => "Lost",

@@ -27,11 +27,18 @@ impl Run {
         equal: bool,
         report: impl FnOnce() -> Report,
     ) -> Checked {
-        if !equal {
-            return Err(Mismatch { function, report: report() });
-        }
+        self.check(function, equal, report)?;
         self.counts.add(function, answer);
         Ok(())
+    }
+
+    /// Reports what is not a case of its own where the two sides differ.
+    pub fn check(&self, function: &'static str, equal: bool, report: impl FnOnce() -> Report) -> Checked {
+        if equal {
+            Ok(())
+        } else {
+            Err(Mismatch { function, report: report() })
+        }
     }
 }
 

@@ -22,6 +22,18 @@ impl Rng {
         (self.next() % bound as u64) as usize
     }
 
+    /// A number from `low` to `high`, each end more often than by chance.
+    pub fn between(&mut self, low: u64, high: u64) -> u64 {
+        match self.below(8) {
+            0 => low,
+            1 => high,
+            _ => {
+                let random = self.next();
+                (high - low).checked_add(1).map_or(random, |count| low + random % count)
+            }
+        }
+    }
+
     pub fn one_in(&mut self, n: usize) -> bool {
         self.below(n) == 0
     }

@@ -1,6 +1,7 @@
 //! What the Rust reference answers to one call of the slot and pair functions.
 
 use crate::ffi::{Identity, Side, Version};
+use crate::ffi_pair::PairIdentity;
 use crate::pair::{self, PairReport, Winner};
 use crate::slot::{self, EncodeError, Expect, HeaderFacts, SlotFields, SlotIndex, SlotInfo, SlotStatus};
 
@@ -73,13 +74,16 @@ fn slot_index(at: &Identity) -> SlotIndex {
 /// The code of a slot's status and the numbers found with it.
 pub fn validate(slot: &[u8], at: &Identity, numbered: u32) -> (u32, [u64; 9]) {
     let status = slot::validate(slot, &expect(at, numbered));
-    let found = match status {
-        SlotStatus::UnsupportedVersion { major } => first(major.into()),
-        SlotStatus::Incompatible { flags } => first(flags.into()),
-        SlotStatus::Valid(info) => info_numbers(slot, &info),
+    (code(&status), status_numbers(slot, &status))
+}
+
+fn status_numbers(slot: &[u8], status: &SlotStatus) -> [u64; 9] {
+    match status {
+        SlotStatus::UnsupportedVersion { major } => first((*major).into()),
+        SlotStatus::Incompatible { flags } => first((*flags).into()),
+        SlotStatus::Valid(info) => info_numbers(slot, info),
         _ => [0; 9],
-    };
-    (code(&status), found)
+    }
 }
 
 fn first(number: u64) -> [u64; 9] {
@@ -159,6 +163,46 @@ pub fn decide(a: &Side, b: &Side) -> Option<[u8; 5]> {
     let (winner, index) = winner_numbers(&report);
     let next = report.next_write().map_or(0, index_number);
     Some([winner, index, report.generation_gap.into(), report.chain_break.into(), next])
+}
+
+/// The payload of a pair's winner: winner, place and length in its slot, and the statuses and decision that led to it.
+pub struct WinnerPayload {
+    pub winner: u8,
+    pub start: usize,
+    pub payload_len: usize,
+    pub values_a: [u64; 9],
+    pub values_b: [u64; 9],
+    pub report: [u8; 6],
+}
+
+pub fn winner_payload(a: &[u8], b: &[u8], at: &PairIdentity) -> WinnerPayload {
+    let a_status = slot::validate(a, &expect(&at.slot(0), at.numbered));
+    let b_status = slot::validate(b, &expect(&at.slot(1), at.numbered));
+    let report = pair::decide(a_status, b_status);
+    let (winner, start, payload_len) = match report.winner_info() {
+        None => (0, 0, 0),
+        Some((index, info)) => {
+            let slot = if index == SlotIndex::A { a } else { b };
+            let payload = info.payload(slot);
+            (index_number(index), payload.as_ptr() as usize - slot.as_ptr() as usize, payload.len())
+        }
+    };
+    let (kind, index) = winner_numbers(&report);
+    WinnerPayload {
+        winner,
+        start,
+        payload_len,
+        values_a: status_numbers(a, &a_status),
+        values_b: status_numbers(b, &b_status),
+        report: [
+            code(&a_status) as u8,
+            code(&b_status) as u8,
+            kind,
+            index,
+            report.generation_gap.into(),
+            report.chain_break.into(),
+        ],
+    }
 }
 
 fn winner_numbers(report: &PairReport) -> (u8, u8) {

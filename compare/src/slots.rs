@@ -16,7 +16,7 @@ const VALIDATE: &str = "sio_validate";
 const FACTS: &str = "sio_header_facts";
 const FRAME: &str = "sio_frame_slot";
 
-const STATUSES: &[Answer] = &[
+pub const STATUSES: &[Answer] = &[
     Answer::Status(1),
     Answer::Status(2),
     Answer::Status(3),
@@ -53,7 +53,12 @@ pub fn random_form(rng: &mut Rng) -> Form {
 
 fn random_sample(rng: &mut Rng) -> Sample {
     let form = random_form(rng);
-    let mut sample = Sample::written(rng, &form);
+    let sample = Sample::written(rng, &form);
+    damaged(rng, sample)
+}
+
+/// Leaves a slot as it is, tears it, changes some bits, or makes faults and seals it again.
+pub fn damaged(rng: &mut Rng, mut sample: Sample) -> Sample {
     match rng.below(8) {
         0 => sample,
         1 => {
