@@ -1,1 +1,3 @@
 pub mod Frames
+pub mod Row
+pub mod Sweep

@@ -20,8 +20,6 @@ use codec::codec::Reader;
 use frame::frame::SlotPart;
 use slot::slot::SlotIndex;
 use verdict::numbers::Maxima;
-use verdict::pairs::MetaSeq;
-use verdict::pairs::PairCase;
 use verdict::pairs::PairPart;
 use verdict::verdict::Heal;
 use verdict::verdict::Judgement;
@@ -33,15 +31,14 @@ use verdict::verdict::WinnerSlot;
 ghost use mathlib.Core.Path.{_≡_};
 ghost use mathlib.Core.Bool.{true};
 ghost use mathlib.Core.List.{_++_, _∷_, []};
-ghost use Prim.Native.Nat.{_+_, _*_, _≤_, _<_, _^_};
+ghost use Prim.Native.Nat.{_+_, _*_, _≤_, _<_};
 ghost use lib.ListN.{length, drop};
 ghost use Rattle.codec.specs.Bytes.{le32, le64};
 ghost use Rattle.frame.specs.Frame.{partWidth, partFrom};
-ghost use Rattle.verdict.specs.Pairs.{numbered};
 ghost use Rattle.verdict.specs.Numbers.{slots};
-ghost use Rattle.verdict.specs.Maxima.{noMaxima, note, noteSeq, noteAll};
+ghost use Rattle.verdict.specs.Maxima.{noMaxima, noteAll};
 ghost use Rattle.verdict.specs.Verdict.{standingNumber, winnerNumber, slotVerdictNumber, verdictBytes};
-ghost use Rattle.verdict.specs.Judge.{count, tallied, lastVerdicts, heal, verdicts, judgeRow};
+ghost use Rattle.verdict.specs.Judge.{lastVerdicts, heal, verdicts, judgeRow};
 ghost use Rattle.verdict.specs.Passes.{verdictsBy, tallies, noTally};
 ghost use Rattle.judge.specs.Frames.{frameWidth, verdictWidth, pairFrom, row, partInRange, pairInRange, inRange, refusal, judged, judgedBytes};
 
@@ -201,79 +198,6 @@ fn put_verdict(out: &mut [u8], v: PairVerdict)
 
 // ---- the passes
 
-// ---- the numbers and the tally, kept as the pairs are gone through
-
-fn note(m: Maxima, v: u64) -> Maxima
-    requires { ⌜ m .«max1_count» < 2 ^ 63 ⌝ }
-    ensures { λ r. ⌜ r ≡ note m v ⌝ }
-{
-    if m.max1 < v {
-        return Maxima {
-            max1: v,
-            max1_count: 1,
-            max2: m.max1,
-        };
-    }
-    if v == m.max1 {
-        return Maxima {
-            max1: m.max1,
-            max1_count: m.max1_count + 1,
-            max2: m.max2,
-        };
-    }
-    if m.max2 < v {
-        return Maxima {
-            max1: m.max1,
-            max1_count: m.max1_count,
-            max2: v,
-        };
-    }
-    m
-}
-
-fn note_slot(m: Maxima, s: SlotPart) -> Maxima
-    requires { ⌜ m .«max1_count» < 2 ^ 63 ⌝ }
-    ensures { λ r. ⌜ r ≡ noteSeq m (numbered s) ⌝ }
-{
-    let seq = verdict::pairs::numbered(s);
-    match seq {
-        MetaSeq::Nothing => m,
-        MetaSeq::Number(v) => note(m, v),
-    }
-}
-
-// The maxima with both slots of a pair counted in.
-fn note_pair(m: Maxima, p: PairPart) -> Maxima
-    requires { ⌜ m .«max1_count» < 2 ^ 62 ⌝ }
-    ensures { λ r. ⌜ (r ≡ noteSeq (noteSeq m (numbered (p .a))) (numbered (p .b))) × (r .«max1_count» ≤ m .«max1_count» + 2) ⌝ }
-{
-    let a = p.a;
-    let b = p.b;
-    let with_a = note_slot(m, a);
-    note_slot(with_a, b)
-}
-
-// One more where a slot of the pair is in flight.
-fn count(v: PairVerdict, n: usize) -> usize
-    requires { ⌜ n < 2 ^ 63 ⌝ }
-    ensures { λ r. ⌜ (r ≡ count v n) × (r ≤ n + 1) ⌝ }
-{
-    if verdict::verdict::in_flight(v) {
-        n + 1
-    } else {
-        n
-    }
-}
-
-// The tally with one more pair; `volume`: it is the volume record.
-fn tallied(t: Tally, volume: bool, case: PairCase, v: PairVerdict) -> Tally
-    requires { ⌜ t .candidates < 2 ^ 63 ⌝ }
-    ensures { λ r. ⌜ (r ≡ tallied t volume case v) × (r .candidates ≤ t .candidates + 1) ⌝ }
-{
-    let candidates = count(v, t.candidates);
-    verdict::verdict::tallied(t, candidates, volume, case, v)
-}
-
 fn maxima_of(frames: &[u8], n: usize) -> Maxima
     requires { ⌜ length (now frames) ≡ n * frameWidth ⌝ }
     ensures { λ r. ⌜ r ≡ noteAll noMaxima (slots (row n (now (frames .entry)))) ⌝ }
@@ -286,7 +210,7 @@ fn maxima_of(frames: &[u8], n: usize) -> Maxima
     let mut i = 0;
     while i < n {
         let p = pair_from(&frames[i * FRAME..]);
-        m = note_pair(m, p);
+        m = crate::note_pair(m, p);
         i += 1;
     }
     m
@@ -307,7 +231,7 @@ fn first_pass(frames: &[u8], n: usize, m: Maxima) -> Tally
     while i < n {
         let case = verdict::pairs::pair_case(pair_from(&frames[i * FRAME..]));
         let v = verdict::verdict::pair_verdict(m, case);
-        t = tallied(t, i == 0, case, v);
+        t = crate::tallied(t, i == 0, case, v);
         i += 1;
     }
     t

@@ -1,8 +1,8 @@
 -- `note` meets its contract, by where the number stands beside the two maxima.
 use borrow.Author.Tests.{eq-eqb, ne-eqb, lt-ltb, le-ltb}
 use borrow.Author.Needs.{needs}
-use Rattle.judge.proofs.frames.note.Statement.{statement}
-use Rattle.judge.proofs.frames.note.Tie as tie
+use Rattle.judge.proofs.note.Statement.{statement}
+use Rattle.judge.proofs.note.Tie as tie
 
 returns : tie.Need-returns
 returns c = search (eq-eqb, ne-eqb, lt-ltb, le-ltb)

@@ -4,8 +4,8 @@ use borrow.Author.Needs.{needs}
 use Rattle.verdict.specs.Pairs.{numbered}
 use Rattle.verdict.specs.Maxima.{noteSeq}
 use Rattle.verdict.proofs.NumberLaws.{note-count}
-use Rattle.judge.proofs.frames.note_pair.Statement.{statement}
-use Rattle.judge.proofs.frames.note_pair.Tie as tie
+use Rattle.judge.proofs.note_pair.Statement.{statement}
+use Rattle.judge.proofs.note_pair.Tie as tie
 
 note-slot-requires : tie.Need-note-slot-requires
 note-slot-requires c κs = search needs

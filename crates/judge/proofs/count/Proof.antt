@@ -1,8 +1,8 @@
 -- `count` meets its contract, with the bound that keeps the sum in its type.
 use native.Mathlib.Omega.{arith}
 use borrow.Author.Needs.{needs}
-use Rattle.judge.proofs.frames.count.Statement.{statement}
-use Rattle.judge.proofs.frames.count.Tie as tie
+use Rattle.judge.proofs.count.Statement.{statement}
+use Rattle.judge.proofs.count.Tie as tie
 
 in-flight-requires : tie.Need-in-flight-requires
 in-flight-requires c κs = search needs

@@ -2,8 +2,8 @@
 use mathlib.Core.Path.{sym, ap, _∙_}
 use borrow.Author.Needs.{needs}
 use Rattle.verdict.specs.Maxima.{noteSeq}
-use Rattle.judge.proofs.frames.note_slot.Statement.{statement}
-use Rattle.judge.proofs.frames.note_slot.Tie as tie
+use Rattle.judge.proofs.note_slot.Statement.{statement}
+use Rattle.judge.proofs.note_slot.Tie as tie
 
 numbered-requires : tie.Need-numbered-requires
 numbered-requires c κs = search needs

@@ -3,8 +3,8 @@ use mathlib.Core.Path.{ap, _∙_}
 use Prim.Native.Nat.{ℕ}
 use borrow.Author.Needs.{needs}
 use Rattle.verdict.specs.Judge.{talliedWith}
-use Rattle.judge.proofs.frames.tallied.Statement.{statement}
-use Rattle.judge.proofs.frames.tallied.Tie as tie
+use Rattle.judge.proofs.tallied.Statement.{statement}
+use Rattle.judge.proofs.tallied.Tie as tie
 
 count-requires : tie.Need-count-requires
 count-requires c κs = search needs

@@ -1,0 +1,28 @@
+-- `settle_pair` meets its contract: the rules, the verdict by them, and the heal with it.
+use Rattle.judge.specs.Sweep.{settlePair}
+use borrow.Author.Needs.{needs}
+use Rattle.judge.proofs.settle_pair.Statement.{statement}
+use Rattle.judge.proofs.settle_pair.Tie as tie
+
+store-rules-requires : tie.Need-store-rules-requires
+store-rules-requires c κs = search needs
+
+demotes-requires : tie.Need-demotes-requires
+demotes-requires c κs = search needs
+
+demoted-requires : tie.Need-demoted-requires
+demoted-requires c κs = search needs
+
+heal-of-requires : tie.Need-heal-of-requires
+heal-of-requires c κs = search needs
+
+returns : tie.Need-returns
+unfolding settlePair
+returns c =
+    let ruled = c .before .before in
+    simp (c .heal-of .ensures, c .before .demoted .ensures, ruled .demotes .ensures, ruled .before .store-rules .ensures)
+
+pub settle-pair-spec : {M : Type 1} → statement M
+settle-pair-spec =
+    tie.close
+    (tie.spec store-rules-requires demotes-requires demoted-requires heal-of-requires returns)

@@ -1,0 +1,148 @@
+-- The passes over a row of pairs as the code makes them, one pair at a time. That they give the judgement is a law
+-- (proofs/SweepLaws.antt).
+use mathlib.Core.Bool.{Bool, cond}
+use mathlib.Core.List.{List, [], _∷_}
+use Prim.Native.Nat.{ℕ, _+_}
+use lib.Dec.{eqb}
+use lib.ListN.{getD, set, take}
+use Rattle.verdict.specs.declared.pairs.PairPart.{PairPart}
+use Rattle.verdict.specs.declared.numbers.Maxima.{Maxima}
+use Rattle.verdict.specs.declared.verdict.Heal.{Heal}
+use Rattle.verdict.specs.declared.verdict.PairVerdict.{PairVerdict}
+use Rattle.verdict.specs.declared.verdict.Standing.{Standing}
+use Rattle.verdict.specs.declared.verdict.StoreRules.{StoreRules}
+use Rattle.verdict.specs.declared.verdict.Tally.{Tally}
+use Rattle.verdict.specs.Pairs.{numbered, pairCase}
+use Rattle.verdict.specs.Maxima.{noMaxima, noteSeq, byMaxima}
+use Rattle.verdict.specs.Verdict.{noWinner, pairVerdict}
+use Rattle.verdict.specs.Judge.{tallied, storeRules, demoted, healOf, writable}
+use Rattle.verdict.specs.Passes.{noTally}
+use Rattle.judge.specs.declared.PairRead.{PairRead}
+use Rattle.judge.specs.declared.Progress.{Progress}
+use Rattle.judge.specs.declared.Stepped.{Stepped}
+use Rattle.judge.specs.declared.frames.Judged.{Judged}
+use Rattle.judge.specs.Row.{pairRead, refusedRow}
+
+-- ---- what is carried
+
+unfoldable pub begun : ℕ → ℕ → Bool → Progress
+begun pairs room clean =
+    record {
+      count = cond (eqb (refusedRow pairs room) 0) pairs 0;
+      refusal = refusedRow pairs room;
+      «clean_close» = clean;
+      maxima = noMaxima;
+      tally = noTally;
+      volume = noWinner Standing.Lost;
+      heal = Heal.Nothing;
+    }
+
+-- The rules of the store, from the first pass.
+abbrev pub rulesOf : Progress → StoreRules
+rulesOf s = storeRules (s .«clean_close») (s .tally) (s .volume)
+
+unfoldable pub finished : Progress → Judged
+finished s =
+    cond (eqb (s .refusal) 0)
+    (Judged.Done
+    (record {
+      heal = s .heal;
+      writable =
+          writable (s .tally .refused) (s .tally .«page_had_candidate») (s .volume .standing)
+          (demoted (rulesOf s .«volume_demote») (s .volume) .standing);
+      clean = rulesOf s .clean;
+      refused = s .tally .refused;
+    }))
+    (Judged.Refusal (s .refusal))
+
+abbrev pub withMaxima : Progress → Maxima → Progress
+withMaxima s m =
+    record {
+      count = s .count;
+      refusal = s .refusal;
+      «clean_close» = s .«clean_close»;
+      maxima = m;
+      tally = s .tally;
+      volume = s .volume;
+      heal = s .heal;
+    }
+
+abbrev pub withTally : Progress → Tally → PairVerdict → Progress
+withTally s t v =
+    record {
+      count = s .count;
+      refusal = s .refusal;
+      «clean_close» = s .«clean_close»;
+      maxima = s .maxima;
+      tally = t;
+      volume = v;
+      heal = s .heal;
+    }
+
+abbrev pub withHeal : Progress → Heal → Progress
+withHeal s h =
+    record {
+      count = s .count;
+      refusal = s .refusal;
+      «clean_close» = s .«clean_close»;
+      maxima = s .maxima;
+      tally = s .tally;
+      volume = s .volume;
+      heal = h;
+    }
+
+-- ---- one pair
+
+-- Pass 0: its numbers.
+unfoldable pub numberPair : Progress → PairPart → Progress
+numberPair s p = withMaxima s (noteSeq (noteSeq (s .maxima) (numbered (p .a))) (numbered (p .b)))
+
+abbrev pub firstVerdict : Progress → PairPart → PairVerdict
+firstVerdict s p = pairVerdict (byMaxima (s .maxima)) (pairCase p)
+
+-- Pass 1: its first verdict. The flag says whether it is the volume record.
+unfoldable pub judgePair : Progress → Bool → PairPart → Stepped
+judgePair s first p =
+    record {
+      progress = withTally s (tallied (s .tally) first (pairCase p) (firstVerdict s p)) (cond first (firstVerdict s p) (s .volume));
+      verdict = firstVerdict s p;
+    }
+
+abbrev pub lastVerdict : Progress → ℕ → PairVerdict → PairVerdict
+lastVerdict s i v = demoted (cond (eqb i 0) (rulesOf s .«volume_demote») (rulesOf s .«page_demote»)) v
+
+-- Pass 2: its last verdict.
+unfoldable pub settlePair : Progress → ℕ → PairVerdict → Stepped
+settlePair s i v = record { progress = withHeal s (healOf i (s .heal) (lastVerdict s i v)); verdict = lastVerdict s i v }
+
+-- The pair at i, with the verdict that stands there.
+unfoldable pub stepped : ℕ → Progress → ℕ → PairRead → PairVerdict → Stepped
+stepped pass s i p v =
+    cond (eqb pass 0) (record { progress = numberPair s (pairRead p); verdict = v })
+    (cond (eqb pass 1) (judgePair s (eqb i 0) (pairRead p)) (settlePair s i v))
+
+-- What a pass counts, which must stay in its type.
+unfoldable pub counted : ℕ → Progress → ℕ
+counted pass s = cond (eqb pass 0) (s .maxima .«max1_count») (cond (eqb pass 1) (s .tally .candidates) 0)
+
+-- ---- a pass
+
+-- The step at i of a list of verdicts.
+abbrev pub stepAt : ℕ → Progress → ℕ → PairRead → List PairVerdict → Stepped
+stepAt pass s i p vs = stepped pass s i p (getD vs i (noWinner Standing.Lost))
+
+-- Over the pairs that are left, which stand from i on: what is carried on, and the verdicts.
+abbrev pub rowFromPair : ℕ → Progress → ℕ → List PairRead → List PairVerdict → Progress
+rowFromPair pass s i [] vs = s
+rowFromPair pass s i (p ∷ ps) vs = rowFromPair pass (stepAt pass s i p vs .progress) (i + 1) ps (set vs i (stepAt pass s i p vs .verdict))
+
+abbrev pub verdictsFromPair : ℕ → Progress → ℕ → List PairRead → List PairVerdict → List PairVerdict
+verdictsFromPair pass s i [] vs = vs
+verdictsFromPair pass s i (p ∷ ps) vs =
+    verdictsFromPair pass (stepAt pass s i p vs .progress) (i + 1) ps (set vs i (stepAt pass s i p vs .verdict))
+
+abbrev pub sweptRow : ℕ → Progress → List PairRead → List PairVerdict → Progress
+sweptRow pass s ps vs = rowFromPair pass s 0 (take (s .count) ps) vs
+
+abbrev pub sweptVerdicts : ℕ → Progress → List PairRead → List PairVerdict → List PairVerdict
+sweptVerdicts pass s ps vs = verdictsFromPair pass s 0 (take (s .count) ps) vs
