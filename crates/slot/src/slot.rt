@@ -360,9 +360,8 @@ fn parse_header(slot: &[u8], e: Expect) -> Parsed
     let HeaderRead::Header(h) = read_header(slot) else {
         return Parsed::Failed(SlotStatus::BadLength);
     };
-    match check_header(slot, h, e) {
-        Check::Fail(status) => Parsed::Failed(status),
-        Check::Pass => Parsed::Passed(
+    let Check::Fail(status) = check_header(slot, h, e) else {
+        return Parsed::Passed(
             SlotInfo {
                 generation: h.generation,
                 owner_generation: h.owner_generation,
@@ -375,8 +374,9 @@ fn parse_header(slot: &[u8], e: Expect) -> Parsed
                 payload_len: h.payload_len,
             },
             h.payload_crc32c,
-        ),
-    }
+        );
+    };
+    Parsed::Failed(status)
 }
 
 // The header's fields, in the order of the layout.

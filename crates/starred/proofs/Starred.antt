@@ -1,5 +1,5 @@
 -- Document 01's starred examples, "Slots and pages at their edges", in its order, as one fact computed from the definitions that the
--- contracts cite.
+-- contracts cite; and the capacities of a page.
 use mathlib.Core.Path.{_≡_, refl}
 use mathlib.Core.Bool.{true, false}
 use mathlib.Core.List.{List, [], _∷_}
@@ -130,3 +130,9 @@ starred =
       table-end = refl;
       file-16383 = refl;
     }
+
+-- Entries per page for log2 12 to 16 (document 01, "Volume record and pages").
+pub capacities : (entriesPerPage 12 ≡ 41) × (entriesPerPage 13 ≡ 83) × (entriesPerPage 14 ≡ 169) × (entriesPerPage 15 ≡ 339)
+    × (entriesPerPage 16 ≡ 681)
+unfolding entriesPerPage blockSize clamp
+capacities = (refl, refl, refl, refl, refl)
