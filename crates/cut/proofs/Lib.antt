@@ -1,6 +1,7 @@
 pub mod ByteLaws
 pub mod StatusLaws
 pub mod FrameLaws
+pub mod RowLaws
 pub mod JudgeLaws
 pub mod PairLaws
 pub mod NumberLaws

@@ -24,6 +24,7 @@ use Rattle.cut.specs.Cut.{Write, store, size, old, new, left, withBytes,
 use Rattle.cut.proofs.StatusLaws.{false-true}
 use Rattle.cut.proofs.JudgeLaws.{settledVerdict, Settled, Explained, explained-standing, Healed, row-confirmed, row-verdicts, row-writable, row-heal}
 use Rattle.cut.proofs.FrameLaws.{PairTyped, judged-row, judged-bytes}
+use Rattle.cut.proofs.RowLaws.{row-judged, row-written}
 use Rattle.cut.proofs.PairLaws.{partAt, Stands, sound-stands, sound-number}
 use Rattle.cut.proofs.NumberLaws.{placeOf, write-qualifies}
 use Rattle.cut.proofs.CutLaws.{cut-bytes, length-cut, Header, cut-header}
@@ -249,8 +250,8 @@ module _ (w : Write) (sound-before : Every SoundPair (w .before)) (sound : Sound
         judgement = judgeRow (parts (after w)) (handed w);
         answer = judged-row (after w) typed some (handed w) out room-after;
         written = judged-bytes (after w) typed some (handed w) out room-after ∙ ap verdictBytes verdicts-are;
-        row-answer = refl;
-        row-written = verdicts-are;
+        row-answer = row-judged (after w) some (handed w);
+        row-written = λ rows rows-room. row-written (after w) some (handed w) rows rows-room ∙ verdicts-are;
         confirmed =
             row-confirmed (winnerBeside (answer .winner) (answer .verdict)) (soundVerdicts sound-behind) (sound-settled sound-behind)
             (explained-standing (answer .explained)) (sound-settled sound-before);

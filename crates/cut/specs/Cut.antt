@@ -25,15 +25,15 @@ use Rattle.pair.specs.declared.pair.WinnerInfo.{WinnerInfo}
 use Rattle.winner.specs.Winner.{winnerBytes}
 use Rattle.verdict.specs.Numbers.{slots, highest}
 use Rattle.verdict.specs.Verdict.{verdictBytes}
-use Rattle.verdict.specs.Judge.{verdicts, judgeRow}
 use Rattle.verdict.specs.declared.verdict.Standing.{Standing}
 use Rattle.verdict.specs.declared.verdict.WinnerSlot.{WinnerSlot}
 use Rattle.verdict.specs.declared.verdict.PairVerdict.{PairVerdict}
 use Rattle.verdict.specs.declared.verdict.Heal.{Heal}
 use Rattle.verdict.specs.declared.verdict.Judgement.{Judgement}
 use Rattle.judge.specs.Frames.{verdictWidth, judged, judgedBytes}
+use Rattle.judge.specs.Row.{rowJudged, rowVerdicts}
 use Rattle.judge.specs.declared.frames.Judged.{Judged}
-use Rattle.cut.specs.Store.{Every, Bytes, Slot, Pair, accepts, cleanMark, slotAt, report, parts, frames, lastRecord, lastRecords, storeMark, Sound}
+use Rattle.cut.specs.Store.{Every, Bytes, Slot, Pair, accepts, cleanMark, slotAt, report, parts, frames, reads, lastRecord, lastRecords, storeMark, Sound}
 
 -- ---- the write and the cut
 
@@ -179,8 +179,8 @@ pub record Survives (w : Write) (out : List ℕ) : Type 0 where
   pub answer : judged (frames (after w)) (markNumber (handed w)) (length out) ≡ Judged.Done judgement
   pub written : judgedBytes (frames (after w)) (markNumber (handed w)) out ≡ verdictBytes verdict
   -- and over the row of pairs the same.
-  pub row-answer : judgeRow (parts (after w)) (handed w) ≡ judgement
-  pub row-written : verdicts (parts (after w)) (handed w) ≡ verdict
+  pub row-answer : rowJudged (reads (after w)) (handed w) (length (after w)) ≡ Judged.Done judgement
+  pub row-written : (rows : List PairVerdict) → length rows ≡ length (after w) → rowVerdicts (reads (after w)) (handed w) rows ≡ verdict
   pub confirmed : Every (λ (v : PairVerdict). v .standing ≡ Standing.Confirmed) verdict
   pub writable : judgement .writable ≡ true
   pub heal : (judgement .heal ≡ Heal.Nothing) ⊎ (judgement .heal ≡ Heal.Slot (length (w .before)) (w .index))

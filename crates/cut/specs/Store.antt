@@ -19,6 +19,8 @@ use Rattle.frame.specs.Frame.{partOf, partBytes}
 use Rattle.frame.specs.declared.frame.SlotPart.{SlotPart}
 use Rattle.verdict.specs.Verdict.{byIndex}
 use Rattle.verdict.specs.declared.pairs.PairPart.{PairPart}
+use Rattle.judge.specs.declared.SlotRead.{SlotRead}
+use Rattle.judge.specs.declared.PairRead.{PairRead}
 use Rattle.volume.specs.Volume.{decodeVolume}
 use Rattle.volume.specs.declared.meta2.VolumeMeta2.{VolumeMeta2}
 use Rattle.page.specs.Read.{decodePage}
@@ -102,7 +104,7 @@ slotPart s = filled (s .rest) (partOf (status s) (headerFacts (s .bytes) (s .exp
 unfoldable pub pairPart : Pair → PairPart
 pairPart p = record { a = slotPart (p .a); b = slotPart (p .b) }
 
--- The row of pairs, as the judge takes it.
+-- The parts of all pairs, as the judge goes by them.
 abbrev pub parts : List Pair → List PairPart
 parts [] = []
 parts (p ∷ ps) = pairPart p ∷ parts ps
@@ -111,6 +113,14 @@ parts (p ∷ ps) = pairPart p ∷ parts ps
 abbrev pub frames : List Pair → List ℕ
 frames [] = []
 frames (p ∷ ps) = partBytes (slotPart (p .a)) ++ (partBytes (slotPart (p .b)) ++ frames ps)
+
+-- The row of pairs: each slot's status and its `header_facts`.
+abbrev pub slotRead : Slot → SlotRead
+slotRead s = record { status = status s; facts = headerFacts (s .bytes) (s .expect) }
+
+abbrev pub reads : List Pair → List PairRead
+reads [] = []
+reads (p ∷ ps) = record { a = slotRead (p .a); b = slotRead (p .b) } ∷ reads ps
 
 -- ---- the last written records
 

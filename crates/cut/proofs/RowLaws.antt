@@ -1,0 +1,203 @@
+-- The fields of a frame that are not given are ignored: the row of pairs as read is judged as the row of parts with anything in them.
+use mathlib.Core.Path.{_≡_, refl, sym, ap, ap₂, fun-ext, _∙_}
+use mathlib.Core.Bool.{Bool, true, false, cond}
+use mathlib.Core.List.{List, [], _∷_, _++_}
+use Prim.Native.Nat.{ℕ, zero, suc, _+_, _*_, _≤_, max}
+use native.Mathlib.Omega.{arith}
+use borrow.Author.Tests.{eq-eqb, ne-eqb}
+use lib.Dec.{eqb}
+use lib.ListN.{length, take, drop}
+use Rattle.slot.specs.Status.{code, validInfo}
+use Rattle.slot.specs.Read.{headerFacts}
+use Rattle.slot.specs.declared.slot.SlotIndex.{SlotIndex}
+use Rattle.slot.specs.declared.slot.ValidInfo.{ValidInfo}
+use Rattle.slot.specs.declared.slot.HeaderFacts.{HeaderFacts}
+use Rattle.frame.specs.Frame.{partBy}
+use Rattle.frame.specs.declared.frame.SlotPart.{SlotPart}
+use Rattle.verdict.specs.Pairs.{numbered, badPayload, badHeader, oppositeSlot, unsupported, pairCase, hasCandidate}
+use Rattle.verdict.specs.Numbers.{slots, number, highest, highestOther, qualifies}
+use Rattle.verdict.specs.Verdict.{byIndex, pairVerdict}
+use Rattle.verdict.specs.Judge.{verdictsFrom, firstVerdicts, volumeVerdict, anyCandidate, pageCandidate, firstTally, rowRules, verdicts, judgeRow}
+use Rattle.verdict.specs.declared.pairs.PairPart.{PairPart}
+use Rattle.verdict.specs.declared.pairs.PairCase.{PairCase}
+use Rattle.verdict.specs.declared.pairs.MetaSeq.{MetaSeq}
+use Rattle.verdict.specs.declared.verdict.PairVerdict.{PairVerdict}
+use Rattle.judge.specs.Row.{partRead, rowRead, refusedRow, rowJudged, rowVerdicts}
+use Rattle.judge.specs.declared.PairRead.{PairRead}
+use Rattle.judge.specs.declared.frames.Judged.{Judged}
+use Rattle.cut.specs.Store.{Slot, Pair, status, filled, slotPart, pairPart, parts, slotRead, reads}
+
+-- ---- a slot
+
+-- Two parts that differ at most in what is not given.
+data Alike : SlotPart → SlotPart → Type 0 where
+  same : (s : SlotPart) → Alike s s
+  nothing : (s t : SlotPart) → s .code ≡ t .code → eqb (t .code) 12 ≡ false → s .facts ≡ 0 → t .facts ≡ 0 → Alike s t
+  stored : (s t : SlotPart) → s .code ≡ t .code → eqb (t .code) 12 ≡ false → s .facts ≡ 1 → t .facts ≡ 1
+      → s .«header_crc32c» ≡ t .«header_crc32c» → Alike s t
+
+filled-alike : (rest : SlotPart) (c : ℕ) (f : HeaderFacts) (i : ValidInfo) → Alike (filled rest (partBy c f i)) (partBy c f i)
+unfolding filled
+filled-alike rest c f (ValidInfo.Info i) = Alike.same _
+filled-alike rest c f ValidInfo.Nothing = go f (eqb c 12) refl
+  where
+    go : (f : HeaderFacts) (valid : Bool) → eqb c 12 ≡ valid → Alike (filled rest (partBy c f ValidInfo.Nothing)) (partBy c f ValidInfo.Nothing)
+    go HeaderFacts.Nothing true is = unfold filled in rw is (Alike.same (partBy c HeaderFacts.Nothing ValidInfo.Nothing))
+    go HeaderFacts.Nothing false is = unfold filled in Alike.nothing (filled rest (partBy c HeaderFacts.Nothing ValidInfo.Nothing)) (partBy c HeaderFacts.Nothing ValidInfo.Nothing) refl is refl refl
+    go (HeaderFacts.Stored crc) true is = unfold filled in rw is (Alike.same (partBy c (HeaderFacts.Stored crc) ValidInfo.Nothing))
+    go (HeaderFacts.Stored crc) false is = unfold filled in Alike.stored (filled rest (partBy c (HeaderFacts.Stored crc) ValidInfo.Nothing)) (partBy c (HeaderFacts.Stored crc) ValidInfo.Nothing) refl is refl refl (simp is)
+    go (HeaderFacts.Numbered crc n) true is = unfold filled in rw is (Alike.same (partBy c (HeaderFacts.Numbered crc n) ValidInfo.Nothing))
+    go (HeaderFacts.Numbered crc n) false is = unfold filled in rw is (Alike.same (partBy c (HeaderFacts.Numbered crc n) ValidInfo.Nothing))
+
+slot-alike : (s : Slot) → Alike (slotPart s) (partRead (slotRead s))
+unfolding slotPart
+slot-alike s = filled-alike (s .rest) (code (status s)) (headerFacts (s .bytes) (s .expect)) (validInfo (status s))
+
+numbered-alike : {s t : SlotPart} → Alike s t → numbered s ≡ numbered t
+unfolding numbered
+numbered-alike (Alike.same s) = refl
+numbered-alike (Alike.nothing s t codes failed none none′) = simp (codes, failed, none, none′)
+numbered-alike (Alike.stored s t codes failed one one′ own) = simp (codes, failed, one, one′)
+
+opposite-alike : (index : SlotIndex) (winner : SlotPart) {s t : SlotPart} → Alike s t → oppositeSlot index winner s ≡ oppositeSlot index winner t
+unfolding oppositeSlot badPayload badHeader
+opposite-alike index winner (Alike.same s) = refl
+opposite-alike index winner (Alike.nothing s t codes failed none none′) = simp (codes, none, none′)
+opposite-alike index winner (Alike.stored s t codes failed one one′ own) = simp (codes, one, one′, own)
+
+-- ---- a pair
+
+abbrev pair : SlotPart → SlotPart → PairPart
+pair a b = record { a = a; b = b }
+
+case-of-b : (a : SlotPart) {b c : SlotPart} → Alike b c → pairCase (pair a b) ≡ pairCase (pair a c)
+unfolding pairCase unsupported
+case-of-b a (Alike.same s) = refl
+case-of-b a (Alike.nothing s t codes failed none none′) =
+    simp (codes, failed, opposite-alike SlotIndex.A a (Alike.nothing s t codes failed none none′))
+case-of-b a (Alike.stored s t codes failed one one′ own) =
+    simp (codes, failed, opposite-alike SlotIndex.A a (Alike.stored s t codes failed one one′ own))
+
+case-of-a : {a c : SlotPart} (b : SlotPart) → Alike a c → pairCase (pair a b) ≡ pairCase (pair c b)
+unfolding pairCase unsupported
+case-of-a b (Alike.same s) = refl
+case-of-a b (Alike.nothing s t codes failed none none′) =
+    simp (codes, failed, opposite-alike SlotIndex.B b (Alike.nothing s t codes failed none none′))
+case-of-a b (Alike.stored s t codes failed one one′ own) =
+    simp (codes, failed, opposite-alike SlotIndex.B b (Alike.stored s t codes failed one one′ own))
+
+case-read : (p : Pair) → pairCase (pairPart p) ≡ pairCase (pair (partRead (slotRead (p .a))) (partRead (slotRead (p .b))))
+unfolding pairPart
+case-read p = case-of-b (slotPart (p .a)) (slot-alike (p .b)) ∙ case-of-a (partRead (slotRead (p .b))) (slot-alike (p .a))
+
+-- ---- the row
+
+-- The numbers of all slots, A before B.
+abbrev numbers : List SlotPart → List ℕ
+numbers [] = []
+numbers (s ∷ ss) = number (numbered s) ∷ numbers ss
+
+abbrev most : List ℕ → ℕ
+most [] = 0
+most (n ∷ ns) = max n (most ns)
+
+highest-is : (ss : List SlotPart) → highest ss ≡ most (numbers ss)
+highest-is [] = refl
+highest-is (s ∷ ss) = ap (max (number (numbered s))) (highest-is ss)
+
+numbers-append : (ss ts : List SlotPart) → numbers (ss ++ ts) ≡ numbers ss ++ numbers ts
+numbers-append [] ts = refl
+numbers-append (s ∷ ss) ts = ap (λ (ns : List ℕ). number (numbered s) ∷ ns) (numbers-append ss ts)
+
+numbers-take : (k : ℕ) (ss : List SlotPart) → numbers (take k ss) ≡ take k (numbers ss)
+numbers-take zero ss = refl
+numbers-take (suc k) [] = refl
+numbers-take (suc k) (s ∷ ss) = ap (λ (ns : List ℕ). number (numbered s) ∷ ns) (numbers-take k ss)
+
+numbers-drop : (k : ℕ) (ss : List SlotPart) → numbers (drop k ss) ≡ drop k (numbers ss)
+numbers-drop zero ss = refl
+numbers-drop (suc k) [] = refl
+numbers-drop (suc k) (s ∷ ss) = numbers-drop k ss
+
+numbers-read : (ps : List Pair) → numbers (slots (parts ps)) ≡ numbers (slots (rowRead (reads ps)))
+unfolding pairPart
+numbers-read [] = refl
+numbers-read (p ∷ ps) = simp (numbered-alike (slot-alike (p .a)), numbered-alike (slot-alike (p .b)), numbers-read ps)
+
+other-is : (k : ℕ) (ss : List SlotPart) → highestOther k ss ≡ most (take k (numbers ss) ++ drop (suc k) (numbers ss))
+other-is k ss =
+    highest-is (take k ss ++ drop (suc k) ss)
+    ∙ ap most (numbers-append (take k ss) (drop (suc k) ss) ∙ ap₂ (λ (front rest : List ℕ). front ++ rest) (numbers-take k ss) (numbers-drop (suc k) ss))
+
+module _ (ps : List Pair) where
+  abbrev written : List PairPart
+  written = parts ps
+
+  abbrev read : List PairPart
+  read = rowRead (reads ps)
+
+  rule-read : qualifies (slots written) ≡ qualifies (slots read)
+  rule-read = fun-ext (λ k. fun-ext (λ seq. by-number k seq))
+    where
+      other-read : (k : ℕ) → highestOther k (slots written) ≡ highestOther k (slots read)
+      other-read k =
+          other-is k (slots written)
+          ∙ ap (λ (ns : List ℕ). most (take k ns ++ drop (suc k) ns)) (numbers-read ps)
+          ∙ sym (other-is k (slots read))
+
+      by-number : (k : ℕ) (seq : MetaSeq) → qualifies (slots written) k seq ≡ qualifies (slots read) k seq
+      by-number k MetaSeq.Nothing = refl
+      by-number k (MetaSeq.Number v) = ap (λ (n : ℕ). eqb v (n + 1)) (other-read k)
+
+verdicts-read : (all some : List SlotPart) → qualifies all ≡ qualifies some → (i : ℕ) (ps : List Pair)
+    → verdictsFrom all i (parts ps) ≡ verdictsFrom some i (rowRead (reads ps))
+verdicts-read all some rule i [] = refl
+verdicts-read all some rule i (p ∷ ps) =
+    ap₂ (λ (v : PairVerdict) (vs : List PairVerdict). v ∷ vs)
+    (ap₂ (λ (q : ℕ → MetaSeq → Bool) (case : PairCase). pairVerdict (λ index. q (byIndex index (2 * i) (2 * i + 1))) case) rule (case-read p))
+    (verdicts-read all some rule (suc i) ps)
+
+candidate-read : (ps : List Pair) → anyCandidate (parts ps) ≡ anyCandidate (rowRead (reads ps))
+candidate-read [] = refl
+candidate-read (p ∷ ps) = ap₂ (λ (case : PairCase) (others : Bool). cond (hasCandidate case) true others) (case-read p) (candidate-read ps)
+
+page-read : (ps : List Pair) → pageCandidate (parts ps) ≡ pageCandidate (rowRead (reads ps))
+page-read [] = refl
+page-read (p ∷ ps) = candidate-read ps
+
+first-read : (ps : List Pair) → firstVerdicts (parts ps) ≡ firstVerdicts (rowRead (reads ps))
+unfolding firstVerdicts
+first-read ps = verdicts-read (slots (parts ps)) (slots (rowRead (reads ps))) (rule-read ps) 0 ps
+
+rules-read : (ps : List Pair) (clean : Bool) → rowRules (parts ps) clean ≡ rowRules (rowRead (reads ps)) clean
+unfolding rowRules firstTally
+rules-read ps clean = rw (first-read ps, page-read ps) refl
+
+last-read : (ps : List Pair) (clean : Bool) → verdicts (parts ps) clean ≡ verdicts (rowRead (reads ps)) clean
+unfolding verdicts
+last-read ps clean = rw (rules-read ps clean, first-read ps) refl
+
+judgement-read : (ps : List Pair) (clean : Bool) → judgeRow (parts ps) clean ≡ judgeRow (rowRead (reads ps)) clean
+unfolding judgeRow
+judgement-read ps clean = rw (last-read ps clean, rules-read ps clean, first-read ps, page-read ps) refl
+
+-- ---- the judge over the row
+
+length-reads : (ps : List Pair) → length (reads ps) ≡ length ps
+length-reads [] = refl
+length-reads (p ∷ ps) = ap suc (length-reads ps)
+
+module _ (ps : List Pair) (some : 1 ≤ length ps) (clean : Bool) where
+  none-refused : (room : ℕ) → room ≡ length ps → refusedRow (length (reads ps)) room ≡ 0
+  unfolding refusedRow
+  none-refused room is =
+      let full : (length (reads ps) ≡ 0 → ⊥) = λ none. omega (arith, sym (length-reads ps) ∙ none) in
+      simp (ne-eqb _ _ full, eq-eqb _ _ (is ∙ sym (length-reads ps)))
+
+  pub row-judged : rowJudged (reads ps) clean (length ps) ≡ Judged.Done (judgeRow (parts ps) clean)
+  unfolding rowJudged
+  row-judged = simp (none-refused (length ps) refl, judgement-read ps clean)
+
+  pub row-written : (rows : List PairVerdict) → length rows ≡ length ps → rowVerdicts (reads ps) clean rows ≡ verdicts (parts ps) clean
+  unfolding rowVerdicts
+  row-written rows room = simp (none-refused (length rows) room, last-read ps clean)
