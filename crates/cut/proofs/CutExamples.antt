@@ -1,6 +1,7 @@
 -- The cut theorem is not empty: a store of three pairs, the volume record and two pages, is sound, a write to a page and one to
 -- the volume record are correct, and cuts after no byte, in the header, in the payload and after the last byte are no accidents. The
--- slots are what `encode` writes; the checksums are computed.
+-- slots are what `encode` writes; the checksums are computed. What is judged and read back after these cuts is computed in
+-- crates/cut_examples.
 use mathlib.Core.Path.{_≡_, refl, sym, ap, subst, _∙_}
 use mathlib.Core.Logic.{inl, inr}
 use mathlib.Core.Bool.{Bool, true, false, cond, not}
@@ -43,7 +44,7 @@ use Rattle.cut.proofs.Theorem.{cut-theorem}
 -- ---- slots of 512 bytes
 
 -- What a host leaves in the fields of a frame that are not given.
-abbrev rest : SlotPart
+abbrev pub rest : SlotPart
 rest = record { code = 0; facts = 0; generation = 5; «meta_seq» = 6; «header_crc32c» = 7; «prev_header_crc32c» = 8 }
 
 abbrev fields : ℕ → SlotIndex → ℕ → ℕ → ℕ → SlotFields
@@ -149,7 +150,7 @@ blank-status object index = refl
 -- ---- records
 
 -- The volume record of a store with two pages, with a clean mark.
-abbrev volumeRecord : Bool → List ℕ
+abbrev pub volumeRecord : Bool → List ℕ
 volumeRecord mark =
     volumeBytes
     (record {
@@ -170,14 +171,14 @@ volumeRecord mark =
     })
 
 -- A page with no entry.
-abbrev pageRecord : ℕ → ℕ → List ℕ
+abbrev pub pageRecord : ℕ → ℕ → List ℕ
 pageRecord index next = pageHeaderBytes (record { «page_index» = index; «next_seq» = next; count = 0 })
 
 volume-bytes : Bytes (volumeRecord false) × Bytes (volumeRecord true)
 unfolding volumeBytes baseBytes tailBytes bytes
 volume-bytes = (bytes-tested (volumeRecord false) refl, bytes-tested (volumeRecord true) refl)
 
-volume-accepted : (accepts Volume (volumeRecord false) ≡ true) × (cleanMark (volumeRecord false) ≡ false)
+pub volume-accepted : (accepts Volume (volumeRecord false) ≡ true) × (cleanMark (volumeRecord false) ≡ false)
     × (accepts Volume (volumeRecord true) ≡ true) × (cleanMark (volumeRecord true) ≡ true)
 unfolding volumeBytes baseBytes tailBytes bytes decodeVolume decodeBase baseCheck tailCheck entriesPerPage blockSize clamp le
 volume-accepted = (refl, refl, refl, refl)
@@ -186,7 +187,7 @@ page-bytes : (index next : ℕ) → Bytes (pageRecord index next)
 unfolding pageHeaderBytes
 page-bytes index next = append-bytes (append-bytes (append-bytes (number-bytes 4 index) (number-bytes 4 next)) (number-bytes 2 0)) (zero-bytes 14)
 
-page-accepted : (accepts (Page 0 41) (pageRecord 0 1) ≡ true) × (accepts (Page 0 41) (pageRecord 0 2) ≡ true)
+pub page-accepted : (accepts (Page 0 41) (pageRecord 0 1) ≡ true) × (accepts (Page 0 41) (pageRecord 0 2) ≡ true)
     × (accepts (Page 0 41) (pageRecord 0 0x304) ≡ true) × (accepts (Page 1 41) (pageRecord 1 0) ≡ true)
 unfolding pageHeaderBytes bytes decodePage le
 page-accepted = (refl, refl, refl, refl)
@@ -194,27 +195,27 @@ page-accepted = (refl, refl, refl, refl)
 -- ---- the store
 
 -- Pair 0: A of generation 1, B Blank.
-abbrev volumeFields : SlotFields
+abbrev pub volumeFields : SlotFields
 volumeFields = fields 0 SlotIndex.A 1 0 1
 
-abbrev volumePair : Pair
+abbrev pub volumePair : Pair
 volumePair = record { a = writtenSlot volumeFields (volumeRecord false); b = blankSlot 0 SlotIndex.B; decoder = Volume }
 
 -- Pair 1: A of generation 1, B of generation 2, which names A's checksum.
 abbrev olderFields : SlotFields
 olderFields = fields 1 SlotIndex.A 1 0 2
 
-abbrev newerFields : SlotFields
+abbrev pub newerFields : SlotFields
 newerFields = fields 1 SlotIndex.B 2 0x588e_9174 4
 
-abbrev firstPage : Pair
+abbrev pub firstPage : Pair
 firstPage = record { a = writtenSlot olderFields (pageRecord 0 1); b = writtenSlot newerFields (pageRecord 0 2); decoder = Page 0 41 }
 
 -- Pair 2: A of generation 1, B Blank.
-abbrev secondFields : SlotFields
+abbrev pub secondFields : SlotFields
 secondFields = fields 2 SlotIndex.A 1 0 3
 
-abbrev secondPage : Pair
+abbrev pub secondPage : Pair
 secondPage = record { a = writtenSlot secondFields (pageRecord 1 0); b = blankSlot 2 SlotIndex.B; decoder = Page 1 41 }
 
 -- The checksums of the first page's headers and payloads.
@@ -222,12 +223,12 @@ older-sums : (headerCrc olderFields (pageRecord 0 1) ≡ 0x588e_9174) × (crc32c
 unfolding headerCrc headerBytes pageHeaderBytes bytes crc32c finalRemainder remainder digest reversed
 older-sums = (refl, refl)
 
-newer-sum : headerCrc newerFields (pageRecord 0 2) ≡ 0xe83c_e718
+pub newer-sum : headerCrc newerFields (pageRecord 0 2) ≡ 0xe83c_e718
 unfolding headerCrc headerBytes pageHeaderBytes bytes crc32c finalRemainder remainder digest reversed
 newer-sum = refl
 
 -- `encode` refuses none of the slots.
-none-refused : (encodeRefusal volumeFields (volumeRecord false) 512 ≡ 0) × (encodeRefusal olderFields (pageRecord 0 1) 512 ≡ 0)
+pub none-refused : (encodeRefusal volumeFields (volumeRecord false) 512 ≡ 0) × (encodeRefusal olderFields (pageRecord 0 1) 512 ≡ 0)
     × (encodeRefusal newerFields (pageRecord 0 2) 512 ≡ 0) × (encodeRefusal secondFields (pageRecord 1 0) 512 ≡ 0)
 unfolding encodeRefusal volumeBytes baseBytes tailBytes pageHeaderBytes bytes
 none-refused = (refl, refl, refl, refl)
@@ -414,10 +415,10 @@ module _ (before : List Pair) (p : Pair) (behind : List Pair) (all : before ++ p
       }
 
 -- A slot with its checksums as numbers.
-abbrev summedSlot : ℕ → ℕ → SlotFields → List ℕ → List ℕ
+abbrev pub summedSlot : ℕ → ℕ → SlotFields → List ℕ → List ℕ
 summedSlot crc payloadCrc f payload = headerBytes crc f (length payload) payloadCrc ++ payload ++ replicate (512 - (128 + length payload)) 0
 
-summed-is : (object : ℕ) (index : SlotIndex) (generation prev number : ℕ) (payload : List ℕ) (crc payloadCrc : ℕ)
+pub summed-is : (object : ℕ) (index : SlotIndex) (generation prev number : ℕ) (payload : List ℕ) (crc payloadCrc : ℕ)
     → encodeRefusal (fields object index generation prev number) payload 512 ≡ 0
     → headerCrc (fields object index generation prev number) payload ≡ crc → crc32c payload ≡ payloadCrc
     → encodedBytes (fields object index generation prev number) payload (replicate 512 0)
@@ -431,7 +432,7 @@ summed-is object index generation prev number payload crc payloadCrc none sum pa
 abbrev newFields : SlotFields
 newFields = fields 1 SlotIndex.A 3 0xe83c_e718 5
 
-abbrev pageWrite : ℕ → Write
+abbrev pub pageWrite : ℕ → Write
 pageWrite = writeTo (volumePair ∷ []) firstPage (secondPage ∷ []) newFields (pageRecord 0 0x304)
 
 page-length : length (pageRecord 0 0x304) ≡ 24
@@ -455,16 +456,16 @@ new-refusal : encodeRefusal newFields (pageRecord 0 0x304) 512 ≡ 0
 unfolding encodeRefusal pageHeaderBytes bytes
 new-refusal = refl
 
-abbrev oldPage : List ℕ
+abbrev pub oldPage : List ℕ
 oldPage = summedSlot 0x588e_9174 0xb3b8_1b53 olderFields (pageRecord 0 1)
 
-abbrev newPage : List ℕ
+abbrev pub newPage : List ℕ
 newPage = summedSlot 0xd61e_00d0 0x9755_91c2 newFields (pageRecord 0 0x304)
 
-old-page : encodedBytes olderFields (pageRecord 0 1) (replicate 512 0) ≡ oldPage
+pub old-page : encodedBytes olderFields (pageRecord 0 1) (replicate 512 0) ≡ oldPage
 old-page = summed-is 1 SlotIndex.A 1 0 2 (pageRecord 0 1) 0x588e_9174 0xb3b8_1b53 (none-refused .1) (older-sums .0) (older-sums .1)
 
-new-page : encodedBytes newFields (pageRecord 0 0x304) (replicate 512 0) ≡ newPage
+pub new-page : encodedBytes newFields (pageRecord 0 0x304) (replicate 512 0) ≡ newPage
 new-page = summed-is 1 SlotIndex.A 3 0xe83c_e718 5 (pageRecord 0 0x304) 0xd61e_00d0 0x9755_91c2 new-refusal (new-sums .0) (new-sums .1)
 
 page-survived : (k : ℕ) → cutTests k newPage oldPage (pageRecord 0 0x304) ≡ true → Survives (pageWrite k) (replicate 12 0)
@@ -496,14 +497,14 @@ page-whole = (whole-at 133, whole-at 134)
 abbrev markedFields : SlotFields
 markedFields = fields 0 SlotIndex.B 2 0x1d15_7c74 5
 
-abbrev volumeWrite : ℕ → Write
+abbrev pub volumeWrite : ℕ → Write
 volumeWrite = writeTo [] volumePair (firstPage ∷ secondPage ∷ []) markedFields (volumeRecord true)
 
 volume-length : length (volumeRecord true) ≡ 64
 unfolding volumeBytes baseBytes tailBytes bytes
 volume-length = refl
 
-volume-sum : headerCrc volumeFields (volumeRecord false) ≡ 0x1d15_7c74
+pub volume-sum : headerCrc volumeFields (volumeRecord false) ≡ 0x1d15_7c74
 unfolding headerCrc headerBytes volumeBytes baseBytes tailBytes bytes crc32c finalRemainder remainder digest reversed
 volume-sum = refl
 
@@ -524,13 +525,13 @@ marked-refusal : encodeRefusal markedFields (volumeRecord true) 512 ≡ 0
 unfolding encodeRefusal volumeBytes baseBytes tailBytes bytes
 marked-refusal = refl
 
-abbrev blankBytes : List ℕ
+abbrev pub blankBytes : List ℕ
 blankBytes = blankSlot 0 SlotIndex.B .bytes
 
-abbrev markedBytes : List ℕ
+abbrev pub markedBytes : List ℕ
 markedBytes = summedSlot 0x880c_0bb0 0xa2bd_3d49 markedFields (volumeRecord true)
 
-new-volume : encodedBytes markedFields (volumeRecord true) (replicate 512 0) ≡ markedBytes
+pub new-volume : encodedBytes markedFields (volumeRecord true) (replicate 512 0) ≡ markedBytes
 new-volume = summed-is 0 SlotIndex.B 2 0x1d15_7c74 5 (volumeRecord true) 0x880c_0bb0 0xa2bd_3d49 marked-refusal (marked-sums .0) (marked-sums .1)
 
 volume-survived : (k : ℕ) → cutTests k markedBytes blankBytes (volumeRecord true) ≡ true → Survives (volumeWrite k) (replicate 12 0)
@@ -548,10 +549,11 @@ volume-cuts =
     (Every.more (volume-survived 128 refl) (Every.more (volume-survived 191 refl) (Every.more (volume-survived 192 refl) Every.none))))))
 
 -- The judge is handed the new record's mark once that record stands whole.
+pub volume-handed : (k : ℕ) → handed (volumeWrite k)
+    ≡ cond (standsWhole (cut k markedBytes blankBytes) markedBytes (volumeRecord true)) (cleanMark (volumeRecord true)) false
+unfolding handed
+volume-handed k = rw new-volume
+
 pub volume-marks : (handed (volumeWrite 191) ≡ false) × (handed (volumeWrite 192) ≡ true)
-unfolding handed standsWhole cut headerBytes volumeBytes baseBytes tailBytes bytes
-volume-marks = (handed-at 191, handed-at 192 ∙ volume-accepted .3)
-  where
-    handed-at : (k : ℕ) → handed (volumeWrite k)
-        ≡ cond (standsWhole (cut k markedBytes blankBytes) markedBytes (volumeRecord true)) (cleanMark (volumeRecord true)) false
-    handed-at k = rw new-volume
+unfolding standsWhole cut headerBytes volumeBytes baseBytes tailBytes bytes
+volume-marks = (volume-handed 191, volume-handed 192 ∙ volume-accepted .3)

@@ -1,0 +1,2 @@
+pub mod SlotsRead
+pub mod Computed
