@@ -3,13 +3,13 @@ use mathlib.Core.Path.{_≡_, refl}
 use mathlib.Core.Bool.{Bool, true, false, cond}
 use mathlib.Core.List.{List, [], _∷_, _++_}
 use Prim.Native.Nat.{ℕ, zero, suc, _+_, _-_, _/_, _%_, _^_, _<_}
-use native.Mathlib.Nat.{pow-succ'}
 use native.Mathlib.Omega.{arith}
 use borrow.Author.Tests.{ltb-true}
 use lib.Dec.{lit<, ltb}
-use lib.ListN.{length, getD, take, drop, replicate}
-use Rattle.codec.specs.Bytes.{le, bytes}
+use lib.ListN.{length, take, drop, replicate}
+use Rattle.codec.specs.Bytes.{AllBytes, le, bytes}
 use Rattle.codec.specs.Crc32c.{crc32c}
+use Rattle.codec.proofs.CursorLaws.{le-lt}
 use Rattle.slot.specs.Status.{indexNumber}
 use Rattle.slot.specs.Read.{magic}
 use Rattle.slot.specs.Write.{headerBytes, headerCrc, writtenHeader, slotBytes}
@@ -54,18 +54,13 @@ number-bytes (suc w) v = Every.more {x = v % 256} (omega arith) (number-bytes w 
 
 -- ---- numbers
 
-byte-fits : {s : List ℕ} → Bytes s → (i : ℕ) → getD s i 0 < 256
+byte-fits : {s : List ℕ} → Bytes s → AllBytes s
 byte-fits Every.none i = lit< tt
 byte-fits (Every.more x s) zero = x
 byte-fits (Every.more x s) (suc i) = byte-fits s i
 
 pub le-fits : (w : ℕ) {s : List ℕ} → Bytes s → (i : ℕ) → le w s i < 256 ^ w
-unfolding le
-le-fits zero all i = lit< tt
-le-fits (suc w) {s} all i =
-    let first : getD s i 0 < 256 = byte-fits all i in
-    let rest : le w s (i + 1) < 256 ^ w = le-fits w all (i + 1) in
-    rw (pow-succ' 256 w) (omega arith)
+le-fits w {s} all i = le-lt w s i (byte-fits all)
 
 -- ---- what `encode` writes
 

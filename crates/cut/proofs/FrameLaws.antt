@@ -1,35 +1,31 @@
 -- The frames filled from a store decode to its row of pairs, so that the judge over the frames is the judge over the row: what is read
 -- from bytes fits its field, and no value is out of range.
-use mathlib.Core.Path.{_≡_, refl, sym, ap, ap₂, _∙_}
+use mathlib.Core.Path.{_≡_, refl, ap}
 use mathlib.Core.Bool.{Bool, true, false, cond, not}
-use mathlib.Core.List.{List, [], _∷_, _++_}
-use Prim.Native.Nat.{ℕ, _*_, _%_, _^_, _≤_, _<_}
+use mathlib.Core.List.{List, [], _∷_}
+use Prim.Native.Nat.{ℕ, suc, _*_, _≤_, _<_}
 use native.Mathlib.Omega.{arith}
-use borrow.Author.Tests.{eq-eqb, ne-eqb, le-leb}
-use lib.Dec.{leb, eqb, lit≤, lit<}
-use lib.ListN.{length, take, drop, length-append}
-use lib.Seq.{drop-at, drop-drop}
-use Rattle.codec.specs.Bytes.{le32, same, allZero, bytes}
-use Rattle.codec.proofs.CursorLaws.{length-bytes}
+use borrow.Author.Tests.{eq-eqb, ne-eqb}
+use lib.ListN.{length, take}
+use Rattle.codec.specs.Bytes.{le32, same, allZero}
 use Rattle.slot.specs.Status.{code, validInfo}
 use Rattle.slot.specs.Read.{magic, header, info, lengthOk, parseHeader, payloadOk, status as statusBy, validate, facts, headerFacts}
 use Rattle.slot.specs.declared.slot.Expect.{Expect}
 use Rattle.slot.specs.declared.slot.SlotInfo.{SlotInfo}
 use Rattle.slot.specs.declared.slot.SlotStatus.{SlotStatus}
 use Rattle.slot.specs.declared.slot.ValidInfo.{ValidInfo}
-use Rattle.slot.specs.declared.slot.NumberedHeader.{NumberedHeader}
 use Rattle.slot.specs.declared.slot.HeaderFacts.{HeaderFacts}
 use Rattle.slot.specs.declared.slot.Parsed.{Parsed}
-use Rattle.frame.specs.Frame.{partWidth, partBy, partOf, partBytes, partFrom}
+use Rattle.frame.specs.Frame.{partBy, partOf}
 use Rattle.frame.specs.declared.frame.SlotPart.{SlotPart}
-use Rattle.frame.proofs.PartLaws.{PartFits, part-read}
+use Rattle.frame.proofs.PartLaws.{InfoFits, ValidFits, FactsFit, part-range, part-fits}
 use Rattle.verdict.specs.Verdict.{verdictBytes}
 use Rattle.verdict.specs.Judge.{verdicts, judgeRow}
-use Rattle.verdict.specs.declared.pairs.PairPart.{PairPart}
-use Rattle.judge.specs.Frames.{frameWidth, verdictWidth, pairFrom, row, pairs, partInRange, pairInRange, inRange, refusal, judged, judgedBytes}
+use Rattle.judge.specs.Frames.{verdictWidth, judged, judgedBytes}
+use Rattle.judge.specs.Row.{refusedRow, markOf}
 use Rattle.judge.specs.declared.frames.Judged.{Judged}
+use Rattle.judge.proofs.FilledLaws.{Filled, AllFilled, filled-judged, filled-bytes}
 use Rattle.cut.specs.Store.{Every, Bytes, Slot, Pair, status, numbersGiven, checksumGiven, filled, slotPart, pairPart, parts, frames, Typed}
-use Rattle.cut.specs.Cut.{markNumber}
 use Rattle.cut.proofs.ByteLaws.{le-fits}
 use Rattle.cut.proofs.StatusLaws.{Failure, Passed, parse-passed, parse-failed, validate-cases}
 
@@ -57,22 +53,6 @@ filled-zeros st f = by-info (code st) f (validInfo st)
 
 -- ---- what is read from bytes fits
 
-record InfoFits (i : SlotInfo) : Type 0 where
-  pub generation : i .generation < 2 ^ 64
-  pub number : i .«meta_seq» < 2 ^ 64
-  pub own : i .«header_crc32c» < 2 ^ 32
-  pub prev : i .«prev_header_crc32c» < 2 ^ 32
-
-data ValidFits : ValidInfo → Type 0 where
-  nothing : ValidFits ValidInfo.Nothing
-  valid : {i : SlotInfo} → InfoFits i → ValidFits (ValidInfo.Info i)
-
-data FactsFit : HeaderFacts → Type 0 where
-  nothing : FactsFit HeaderFacts.Nothing
-  stored : {crc : ℕ} → crc < 2 ^ 32 → FactsFit (HeaderFacts.Stored crc)
-  numbered : {crc : ℕ} {n : NumberedHeader} → crc < 2 ^ 32 → n .generation < 2 ^ 64 → n .«meta_seq» < 2 ^ 64 → n .«prev_header_crc32c» < 2 ^ 32
-      → FactsFit (HeaderFacts.Numbered crc n)
-
 module _ (s : List ℕ) (e : Expect) (all : Bytes s) where
   header-fits : InfoFits (info (header s))
   header-fits = record { generation = le-fits 8 all 56; number = le-fits 8 all 96; own = le-fits 4 all 8; prev = le-fits 4 all 80 }
@@ -83,16 +63,16 @@ module _ (s : List ℕ) (e : Expect) (all : Bytes s) where
   valid-fits : ValidFits (validInfo (validate s e))
   valid-fits =
       validate-cases s e (validate s e) (ValidFits (validInfo (validate s e))) refl
-      (λ is. rw (← is) nothing)
-      (λ length-is zeros-is is. rw (← is) nothing)
+      (λ is. rw (← is) ValidFits.nothing)
+      (λ length-is zeros-is is. rw (← is) ValidFits.nothing)
       (λ length-is is. rw (← is) (by-header (parseHeader s e) refl))
     where
       by-payload : (ok : Bool) (i : SlotInfo) → InfoFits i → ValidFits (validInfo (cond ok (SlotStatus.Valid i) SlotStatus.BadPayloadCrc))
-      by-payload true i fits = valid fits
-      by-payload false i fits = nothing
+      by-payload true i fits = ValidFits.valid fits
+      by-payload false i fits = ValidFits.nothing
 
       by-failure : (f : SlotStatus) → Failure f → ValidFits (validInfo f)
-      by-failure f (Failure.failure not-blank not-valid) = rw not-valid nothing
+      by-failure f (Failure.failure not-blank not-valid) = rw not-valid ValidFits.nothing
 
       by-header : (answer : Parsed) → parseHeader s e ≡ answer → ValidFits (validInfo (statusBy s answer))
       by-header (Parsed.Failed f) parse = by-failure f (parse-failed s e f parse)
@@ -103,98 +83,44 @@ module _ (s : List ℕ) (e : Expect) (all : Bytes s) where
   facts-fit = go (lengthOk (length s) (e .«log2_slot_size»)) (allZero (take 128 s)) (same (take 8 s) magic)
     where
       by-header : (answer : Parsed) → parseHeader s e ≡ answer → FactsFit (facts (le32 s 8) answer)
-      by-header (Parsed.Failed f) parse = stored (le-fits 4 all 8)
+      by-header (Parsed.Failed f) parse = FactsFit.stored (le-fits 4 all 8)
       by-header (Parsed.Passed i crc) parse =
           let fits = passed-fits i crc parse in
-          numbered (le-fits 4 all 8) (fits .generation) (fits .number) (fits .prev)
+          FactsFit.numbered (le-fits 4 all 8) (fits .generation) (fits .number) (fits .prev)
 
       go : (long zeros stands : Bool)
           → FactsFit
           (cond (not long) HeaderFacts.Nothing
           (cond zeros HeaderFacts.Nothing (cond (not stands) HeaderFacts.Nothing (facts (le32 s 8) (parseHeader s e)))))
-      go false zeros stands = nothing
-      go true true stands = nothing
-      go true false false = nothing
+      go false zeros stands = FactsFit.nothing
+      go true true stands = FactsFit.nothing
+      go true false false = FactsFit.nothing
       go true false true = by-header (parseHeader s e) refl
 
 -- ---- a slot's part
-
-code-small : (st : SlotStatus) → code st ≤ 12
-code-small SlotStatus.ReadError = lit≤ tt
-code-small SlotStatus.BadLength = lit≤ tt
-code-small SlotStatus.Blank = lit≤ tt
-code-small SlotStatus.BadMagic = lit≤ tt
-code-small SlotStatus.BadHeaderCrc = lit≤ tt
-code-small (SlotStatus.UnsupportedVersion major) = lit≤ tt
-code-small (SlotStatus.Incompatible flags) = lit≤ tt
-code-small SlotStatus.Malformed = lit≤ tt
-code-small SlotStatus.Foreign = lit≤ tt
-code-small SlotStatus.WrongObject = lit≤ tt
-code-small SlotStatus.Misplaced = lit≤ tt
-code-small SlotStatus.BadPayloadCrc = lit≤ tt
-code-small (SlotStatus.Valid i) = lit≤ tt
-
-part-code : (c : ℕ) (f : HeaderFacts) (i : ValidInfo) → c ≤ 12 → partBy c f i .code ≤ 12
-part-code c f (ValidInfo.Info i) small = lit≤ tt
-part-code c HeaderFacts.Nothing ValidInfo.Nothing small = small
-part-code c (HeaderFacts.Stored crc) ValidInfo.Nothing small = small
-part-code c (HeaderFacts.Numbered crc n) ValidInfo.Nothing small = small
-
-part-facts : (c : ℕ) (f : HeaderFacts) (i : ValidInfo) → partBy c f i .facts ≤ 2
-part-facts c HeaderFacts.Nothing (ValidInfo.Info i) = lit≤ tt
-part-facts c (HeaderFacts.Stored crc) (ValidInfo.Info i) = lit≤ tt
-part-facts c (HeaderFacts.Numbered crc n) (ValidInfo.Info i) = lit≤ tt
-part-facts c HeaderFacts.Nothing ValidInfo.Nothing = lit≤ tt
-part-facts c (HeaderFacts.Stored crc) ValidInfo.Nothing = lit≤ tt
-part-facts c (HeaderFacts.Numbered crc n) ValidInfo.Nothing = lit≤ tt
-
--- The four numbers of a part.
-record NumbersFit (p : SlotPart) : Type 0 where
-  pub generation : p .generation < 2 ^ 64
-  pub number : p .«meta_seq» < 2 ^ 64
-  pub own : p .«header_crc32c» < 2 ^ 32
-  pub prev : p .«prev_header_crc32c» < 2 ^ 32
-
-given-fit : (c : ℕ) (f : HeaderFacts) (i : ValidInfo) → FactsFit f → ValidFits i → NumbersFit (partBy c f i)
-given-fit c f i facts (valid fits) = record { generation = fits .generation; number = fits .number; own = fits .own; prev = fits .prev }
-given-fit c f i nothing nothing = record { generation = lit< tt; number = lit< tt; own = lit< tt; prev = lit< tt }
-given-fit c f i (stored own) nothing = record { generation = lit< tt; number = lit< tt; own = own; prev = lit< tt }
-given-fit c f i (numbered own generation number prev) nothing = record { generation = generation; number = number; own = own; prev = prev }
 
 either-below : (test : Bool) {x y bound : ℕ} → x < bound → y < bound → cond test x y < bound
 either-below true first second = first
 either-below false first second = second
 
-module _ (s : Slot) where
-  abbrev given : SlotPart
-  given = partOf (status s) (headerFacts (s .bytes) (s .expect))
-
-  code-range : slotPart s .code ≤ 12
-  unfolding slotPart filled
-  code-range = part-code (code (status s)) (headerFacts (s .bytes) (s .expect)) (validInfo (status s)) (code-small (status s))
-
-  facts-range : slotPart s .facts ≤ 2
-  unfolding slotPart filled
-  facts-range = part-facts (code (status s)) (headerFacts (s .bytes) (s .expect)) (validInfo (status s))
-
-  part-in-range : partInRange (slotPart s) ≡ true
-  unfolding partInRange
-  part-in-range = simp (le-leb _ _ code-range, le-leb _ _ facts-range)
-
-  slot-fits : Typed s → PartFits (slotPart s)
-  unfolding slotPart filled
-  slot-fits typed =
-      let fits : NumbersFit given =
-      given-fit (code (status s)) (headerFacts (s .bytes) (s .expect)) (validInfo (status s)) (facts-fit (s .bytes) (s .expect) (typed .bytes))
-      (valid-fits (s .bytes) (s .expect) (typed .bytes)) in
-      record {
-        code = let small : given .code ≤ 12 = code-range in omega arith;
-        facts = let small : given .facts ≤ 2 = facts-range in omega arith;
-        generation = either-below (numbersGiven given) (fits .generation) (typed .generation);
-        number = either-below (numbersGiven given) (fits .number) (typed .number);
-        own = either-below (checksumGiven given) (fits .own) (typed .own);
-        prev = either-below (numbersGiven given) (fits .prev) (typed .prev);
-      }
+slot-filled : (s : Slot) → Typed s → Filled (slotPart s)
+unfolding slotPart filled
+slot-filled s typed =
+    let facts = headerFacts (s .bytes) (s .expect) in
+    let given = partOf (status s) facts in
+    let fits = part-fits (status s) facts (valid-fits (s .bytes) (s .expect) (typed .bytes)) (facts-fit (s .bytes) (s .expect) (typed .bytes)) in
+    record {
+      fits =
+          record {
+            code = fits .code;
+            facts = fits .facts;
+            generation = either-below (numbersGiven given) (fits .generation) (typed .generation);
+            number = either-below (numbersGiven given) (fits .number) (typed .number);
+            own = either-below (checksumGiven given) (fits .own) (typed .own);
+            prev = either-below (numbersGiven given) (fits .prev) (typed .prev);
+          };
+      range = part-range (status s) facts;
+    }
 
 -- ---- the row of frames
 
@@ -202,70 +128,25 @@ pub record PairTyped (p : Pair) : Type 0 where
   pub a : Typed (p .a)
   pub b : Typed (p .b)
 
-length-part : (p : SlotPart) → length (partBytes p) ≡ partWidth
-unfolding partBytes
-length-part p = simp (length-append, length-bytes)
+row-filled : (ps : List Pair) → Every PairTyped ps → AllFilled (parts ps)
+unfolding pairPart
+row-filled [] typed = AllFilled.none
+row-filled (p ∷ ps) (Every.more first rest) = AllFilled.more (slot-filled (p .a) (first .a)) (slot-filled (p .b) (first .b)) (row-filled ps rest)
 
-part-next : (p : SlotPart) (rest : List ℕ) → drop partWidth (partBytes p ++ rest) ≡ rest
-part-next p rest = drop-at (partBytes p) rest partWidth (length-part p)
+length-parts : (ps : List Pair) → length (parts ps) ≡ length ps
+length-parts [] = refl
+length-parts (p ∷ ps) = ap suc (length-parts ps)
 
-pair-read : (p : Pair) → PairTyped p → (rest : List ℕ)
-    → pairFrom (partBytes (slotPart (p .a)) ++ (partBytes (slotPart (p .b)) ++ rest)) ≡ pairPart p
-unfolding pairFrom pairPart
-pair-read p typed rest =
-    let first = part-read (slotPart (p .a)) (slot-fits (p .a) (typed .a)) (partBytes (slotPart (p .b)) ++ rest) in
-    let next = part-next (slotPart (p .a)) (partBytes (slotPart (p .b)) ++ rest) in
-    let second = part-read (slotPart (p .b)) (slot-fits (p .b) (typed .b)) rest in
-    ap₂ {C = PairPart} (λ (a b : SlotPart). record { a = a; b = b }) first (ap partFrom next ∙ second)
-
-pair-next : (p : Pair) (rest : List ℕ) → drop frameWidth (partBytes (slotPart (p .a)) ++ (partBytes (slotPart (p .b)) ++ rest)) ≡ rest
-pair-next p rest =
-    sym (drop-drop partWidth partWidth (partBytes (slotPart (p .a)) ++ (partBytes (slotPart (p .b)) ++ rest)))
-    ∙ ap (drop partWidth) (part-next (slotPart (p .a)) (partBytes (slotPart (p .b)) ++ rest))
-    ∙ part-next (slotPart (p .b)) rest
-
-row-read : (ps : List Pair) → Every PairTyped ps → row (length ps) (frames ps) ≡ parts ps
-row-read [] typed = refl
-row-read (p ∷ ps) (Every.more first rest) =
-    ap₂ (λ (part : PairPart) (others : List PairPart). part ∷ others) (pair-read p first (frames ps))
-    (ap (row (length ps)) (pair-next p (frames ps)) ∙ row-read ps rest)
-
-length-frames : (ps : List Pair) → length (frames ps) ≡ length ps * frameWidth
-length-frames [] = refl
-length-frames (p ∷ ps) = simp (length-append, length-part, length-frames ps) (omega arith)
-
-row-in-range : (ps : List Pair) → inRange (parts ps) ≡ true
-unfolding pairInRange pairPart
-row-in-range [] = refl
-row-in-range (p ∷ ps) = simp (part-in-range (p .a), part-in-range (p .b), row-in-range ps)
-
-mark-small : (mark : Bool) → leb (markNumber mark) 1 ≡ true
-mark-small true = refl
-mark-small false = refl
-
-mark-read : (mark : Bool) → eqb (markNumber mark) 1 ≡ mark
-mark-read true = refl
-mark-read false = refl
+not-refused : (n : ℕ) → 1 ≤ n → refusedRow n n ≡ 0
+unfolding refusedRow
+not-refused n some = let full : (n ≡ 0 → ⊥) = omega arith in simp (ne-eqb n 0 full, eq-eqb n n refl)
 
 module _ (ps : List Pair) (typed : Every PairTyped ps) (some : 1 ≤ length ps) (mark : Bool) (out : List ℕ) (room : length out ≡ length ps * verdictWidth) where
-  pairs-are : pairs (frames ps) ≡ length ps
-  pairs-are = let long : length (frames ps) ≡ length ps * 52 = length-frames ps in omega arith
+  nothing-refused : refusedRow (length (parts ps)) (length ps) ≡ 0
+  nothing-refused = rw (length-parts ps) (not-refused (length ps) some)
 
-  row-is : row (pairs (frames ps)) (frames ps) ≡ parts ps
-  row-is = ap (λ (n : ℕ). row n (frames ps)) pairs-are ∙ row-read ps typed
+  pub judged-row : judged (frames ps) (markOf mark) (length out) ≡ Judged.Done (judgeRow (parts ps) mark)
+  judged-row = simp (room, filled-judged (parts ps) (row-filled ps typed) mark (length ps), nothing-refused)
 
-  nothing-refused : refusal (frames ps) (markNumber mark) (length out) ≡ 0
-  unfolding refusal
-  nothing-refused =
-      let long : length (frames ps) ≡ length ps * 52 = length-frames ps in
-      let full : (length (frames ps) ≡ 0 → ⊥) = omega arith in
-      let whole : length (frames ps) % frameWidth ≡ 0 = omega arith in
-      simp (ne-eqb _ _ full, eq-eqb _ _ whole, eq-eqb _ _ (room ∙ ap (λ (n : ℕ). n * verdictWidth) (sym pairs-are)), mark-small mark, row-is, row-in-range ps)
-
-  pub judged-row : judged (frames ps) (markNumber mark) (length out) ≡ Judged.Done (judgeRow (parts ps) mark)
-  unfolding judged
-  judged-row = simp (nothing-refused, row-is, mark-read mark)
-
-  pub judged-bytes : judgedBytes (frames ps) (markNumber mark) out ≡ verdictBytes (verdicts (parts ps) mark)
-  unfolding judgedBytes
-  judged-bytes = simp (nothing-refused, row-is, mark-read mark)
+  pub judged-bytes : judgedBytes (frames ps) (markOf mark) out ≡ verdictBytes (verdicts (parts ps) mark)
+  judged-bytes = simp (filled-bytes (parts ps) (row-filled ps typed) mark out (length ps) room, nothing-refused)

@@ -31,7 +31,7 @@ use Rattle.verdict.specs.declared.verdict.PairVerdict.{PairVerdict}
 use Rattle.verdict.specs.declared.verdict.Heal.{Heal}
 use Rattle.verdict.specs.declared.verdict.Judgement.{Judgement}
 use Rattle.judge.specs.Frames.{verdictWidth, judged, judgedBytes}
-use Rattle.judge.specs.Row.{rowJudged, rowVerdicts}
+use Rattle.judge.specs.Row.{markOf, rowJudged, rowVerdicts}
 use Rattle.judge.specs.declared.frames.Judged.{Judged}
 use Rattle.cut.specs.Store.{Every, Bytes, Slot, Pair, accepts, cleanMark, slotAt, report, parts, frames, reads, lastRecord, lastRecords, storeMark, Sound}
 
@@ -149,10 +149,6 @@ isEmpty (p ∷ ps) = false
 unfoldable pub handed : Write → Bool
 handed w = cond (isEmpty (w .before)) (cond (whole w) (cleanMark (w .payload)) false) false
 
-abbrev pub markNumber : Bool → ℕ
-markNumber true = 1
-markNumber false = 0
-
 -- Every pair's last written record: in the written pair the new one if it stands whole.
 abbrev pub records : Write → List (List ℕ)
 records w = lastRecords (w .before) ++ cond (whole w) (w .payload) (lastRecord (w .pair)) ∷ lastRecords (w .behind)
@@ -176,8 +172,8 @@ pub record Survives (w : Write) (out : List ℕ) : Type 0 where
   pub verdict : List PairVerdict
   pub judgement : Judgement
   -- `judge` over the frames,
-  pub answer : judged (frames (after w)) (markNumber (handed w)) (length out) ≡ Judged.Done judgement
-  pub written : judgedBytes (frames (after w)) (markNumber (handed w)) out ≡ verdictBytes verdict
+  pub answer : judged (frames (after w)) (markOf (handed w)) (length out) ≡ Judged.Done judgement
+  pub written : judgedBytes (frames (after w)) (markOf (handed w)) out ≡ verdictBytes verdict
   -- and over the row of pairs the same.
   pub row-answer : rowJudged (reads (after w)) (handed w) (length (after w)) ≡ Judged.Done judgement
   pub row-written : (rows : List PairVerdict) → length rows ≡ length (after w) → rowVerdicts (reads (after w)) (handed w) rows ≡ verdict

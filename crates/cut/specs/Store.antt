@@ -1,7 +1,7 @@
 -- The sound store (document 01, "The sound store and the cut"): its slots and pairs, how they are read and judged, and when it is sound.
 use mathlib.Core.Path.{_≡_}
 use mathlib.Core.Bool.{Bool, true, false, cond}
-use mathlib.Core.List.{List, [], _∷_, _++_}
+use mathlib.Core.List.{List, [], _∷_}
 use Prim.Native.Nat.{ℕ, _+_, _^_, _<_}
 use lib.Dec.{leb, ltb, eqb}
 use lib.ListN.{length}
@@ -15,10 +15,11 @@ use Rattle.slot.specs.declared.slot.ValidInfo.{ValidInfo}
 use Rattle.slot.specs.declared.slot.Expect.{Expect}
 use Rattle.pair.specs.declared.pair.PairReport.{PairReport}
 use Rattle.winner.specs.Winner.{readPair}
-use Rattle.frame.specs.Frame.{partOf, partBytes}
+use Rattle.frame.specs.Frame.{partOf}
 use Rattle.frame.specs.declared.frame.SlotPart.{SlotPart}
 use Rattle.verdict.specs.Verdict.{byIndex}
 use Rattle.verdict.specs.declared.pairs.PairPart.{PairPart}
+use Rattle.judge.specs.Row.{framesOf}
 use Rattle.judge.specs.declared.SlotRead.{SlotRead}
 use Rattle.judge.specs.declared.PairRead.{PairRead}
 use Rattle.volume.specs.Volume.{decodeVolume}
@@ -111,8 +112,7 @@ parts (p ∷ ps) = pairPart p ∷ parts ps
 
 -- The frames filled from all pairs.
 abbrev pub frames : List Pair → List ℕ
-frames [] = []
-frames (p ∷ ps) = partBytes (slotPart (p .a)) ++ (partBytes (slotPart (p .b)) ++ frames ps)
+frames ps = framesOf (parts ps)
 
 -- The row of pairs: each slot's status and its `header_facts`.
 abbrev pub slotRead : Slot → SlotRead

@@ -19,14 +19,14 @@ use Rattle.verdict.specs.declared.verdict.Heal.{Heal}
 use Rattle.verdict.specs.Pairs.{numbered, badPayload, badHeader, blank, oppositeSlot, unsupported, newer, pairCase}
 use Rattle.verdict.specs.Judge.{firstVerdicts, firstTally, cleanMark, storeRules, demoted, healOf, writable, rowRules, verdicts, judgeRow}
 use Rattle.judge.specs.Frames.{pairFrom, partInRange, pairInRange, refusal, judged, judgedBytes}
-use Rattle.judge.specs.Row.{framesOf}
+use Rattle.judge.specs.Row.{framesOf, markOf}
 use Rattle.judge.specs.declared.SlotRead.{SlotRead}
 use Rattle.judge.specs.declared.frames.Judged.{Judged}
 use Rattle.page.specs.Write.{headerBytes as pageHeaderBytes}
 use Rattle.volume.specs.Base.{baseBytes}
 use Rattle.volume.specs.Volume.{tailBytes, volumeBytes}
 use Rattle.cut.specs.Store.{Volume, Page, accepts, cleanMark as recordMark, filled}
-use Rattle.cut.specs.Cut.{cut, left, withSlot, handed, standsWhole, markNumber}
+use Rattle.cut.specs.Cut.{cut, left, withSlot, handed, standsWhole}
 use Rattle.cut.proofs.CutExamples.{volumeRecord, pageRecord, volumeFields, newerFields, secondFields, volumePair, firstPage, secondPage, pageWrite, volumeWrite, summedSlot, summed-is, none-refused, newer-sum, volume-sum, volume-handed, oldPage, newPage, blankBytes, markedBytes, old-page, new-page, new-volume, page-accepted, volume-accepted}
 use Rattle.cut_examples.proofs.SlotsRead.{Computed, PairRecord, more, none, readOnce, filledRow, pair-record, computed-row}
 
@@ -192,8 +192,8 @@ module _ (k : ℕ) (x : SlotRead) (read : readOnce (cut k markedBytes blankBytes
       (record { a = volumeRead; b = x } ∷ record { a = olderRead; b = newerRead } ∷ record { a = secondRead; b = blankRead } ∷ []))
 
   volume-at : {heal : Heal} {clean : Bool} {verdict : List ℕ}
-      → judged volumeRow (markNumber mark) 12 ≡ Judged.Done (record { heal = heal; writable = true; clean = clean; refused = false })
-      → judgedBytes volumeRow (markNumber mark) (replicate 12 0) ≡ verdict
+      → judged volumeRow (markOf mark) 12 ≡ Judged.Done (record { heal = heal; writable = true; clean = clean; refused = false })
+      → judgedBytes volumeRow (markOf mark) (replicate 12 0) ≡ verdict
       → Computed (volumeWrite k) heal clean verdict (r ∷ pageRecord 0 2 ∷ pageRecord 1 0 ∷ [])
   volume-at =
       computed-row (volumeWrite k) {mark = mark} (more marked-pair (more first-page (more second-page none))) (volume-handed k ∙ mark-is)

@@ -17,12 +17,12 @@ use Rattle.frame.specs.declared.frame.SlotPart.{SlotPart}
 use Rattle.verdict.specs.declared.pairs.PairPart.{PairPart}
 use Rattle.verdict.specs.declared.verdict.Heal.{Heal}
 use Rattle.judge.specs.Frames.{judged, judgedBytes}
-use Rattle.judge.specs.Row.{partRead, framesOf}
+use Rattle.judge.specs.Row.{partRead, framesOf, markOf}
 use Rattle.judge.specs.declared.SlotRead.{SlotRead}
 use Rattle.judge.specs.declared.PairRead.{PairRead}
 use Rattle.judge.specs.declared.frames.Judged.{Judged}
-use Rattle.cut.specs.Store.{Decoder, Slot, Pair, accepts, status, report, filled, slotPart, pairPart, frames}
-use Rattle.cut.specs.Cut.{Write, after, handed, markNumber}
+use Rattle.cut.specs.Store.{Decoder, Slot, Pair, accepts, report, filled, slotPart, pairPart, frames, slotRead}
+use Rattle.cut.specs.Cut.{Write, after, handed}
 use Rattle.cut.proofs.CutExamples.{rest}
 
 -- ---- what is computed
@@ -40,16 +40,12 @@ pub data AllRead : List Pair → List (List ℕ) → Type 0 where
 -- After the cut of w the judge answers this heal and this clean mark, writable and not refused, and writes these verdicts; and these
 -- records are read back.
 pub record Computed (w : Write) (heal : Heal) (clean : Bool) (verdict : List ℕ) (records : List (List ℕ)) : Type 0 where
-  pub answer : judged (frames (after w)) (markNumber (handed w)) 12
+  pub answer : judged (frames (after w)) (markOf (handed w)) 12
       ≡ Judged.Done (record { heal = heal; writable = true; clean = clean; refused = false })
-  pub written : judgedBytes (frames (after w)) (markNumber (handed w)) (replicate 12 0) ≡ verdict
+  pub written : judgedBytes (frames (after w)) (markOf (handed w)) (replicate 12 0) ≡ verdict
   pub back : AllRead (after w) records
 
 -- ---- slots as they are read
-
--- What `validate` and `header_facts` answer for a slot.
-abbrev pub slotRead : Slot → SlotRead
-slotRead s = record { status = status s; facts = headerFacts (s .bytes) (s .expect) }
 
 abbrev pub slotWith : List ℕ → Expect → Slot
 slotWith bytes expect = record { bytes = bytes; expect = expect; rest = rest }
@@ -130,8 +126,8 @@ row-back (more pair row) = AllRead.more (pair .back) (pair .accepted) (row-back 
 
 pub computed-row : (w : Write) {xs : List PairRead} {rs : List (List ℕ)} {mark : Bool} {heal : Heal} {clean : Bool} {verdict : List ℕ}
     → RowRecords (after w) xs rs → handed w ≡ mark
-    → judged (framesOf (filledRow xs)) (markNumber mark) 12 ≡ Judged.Done (record { heal = heal; writable = true; clean = clean; refused = false })
-    → judgedBytes (framesOf (filledRow xs)) (markNumber mark) (replicate 12 0) ≡ verdict
+    → judged (framesOf (filledRow xs)) (markOf mark) 12 ≡ Judged.Done (record { heal = heal; writable = true; clean = clean; refused = false })
+    → judgedBytes (framesOf (filledRow xs)) (markOf mark) (replicate 12 0) ≡ verdict
     → Computed w heal clean verdict rs
 computed-row w row mark-is answer written =
     record { answer = rw (row-frames row, mark-is) answer; written = rw (row-frames row, mark-is) written; back = row-back row }

@@ -7,16 +7,16 @@ use native.Mathlib.Omega.{arith}
 use borrow.Author.Tests.{le-leb, lt-leb}
 use lib.ListN.{length, getD, take, drop, length-append}
 use lib.Seq.{take-at}
-use Rattle.codec.specs.Bytes.{le, le16, le32, le64, bytes, bytes16, bytes32, bytes64, allZero}
+use Rattle.codec.specs.Bytes.{le, le16, le32, le64, bytes, bytes16, bytes32, bytes64}
 use Rattle.codec.specs.Outcome.{Outcome, given, refusal, isGiven}
 use Rattle.codec.proofs.CursorLaws.{length-bytes, le-byte, le-bytes, le-shift}
 use Rattle.region.specs.Error.{checkOutcome}
 use Rattle.region.specs.Kind.{kindOf}
 use Rattle.region.specs.declared.meta.Check.{Check}
 use Rattle.region.specs.declared.meta.MetaError.{MetaError}
-use Rattle.name.specs.Name.{zeroAt, nameOk, nameRefused, nameCheck, noName, nameOf, paddedCheck, paddedName}
+use Rattle.name.specs.Name.{noName, paddedCheck}
 use Rattle.name.specs.declared.meta.RegionName.{RegionName}
-use Rattle.name.proofs.NameLaws.{padded-bytes}
+use Rattle.name.proofs.NameLaws.{padded-bytes, padded-none}
 use Rattle.entry.specs.declared.meta2.RawEntry.{RawEntry}
 use Rattle.entry.specs.declared.meta2.Entry2.{Entry2}
 use Rattle.entry.specs.declared.meta2.EntryLimits.{EntryLimits}
@@ -87,17 +87,6 @@ entry-fields s long seq kind state flags compat name tag extents reserved a b si
     (simp (le-leb _ _ long), cc (le-leb _ _ long))
 
 -- ---- an entry's name
-
--- What does not pass as a name is none.
-padded-none : (raw : List ℕ) {number : ℕ} → paddedCheck raw ≡ refusal number → paddedName raw ≡ noName
-unfolding paddedCheck paddedName nameCheck nameOf
-padded-none raw {number} is = go (allZero (drop (zeroAt raw) raw)) (nameOk (take (zeroAt raw) raw)) _ is
-  where
-    go : (zeros ok : Bool) (name : RegionName) → cond zeros (cond ok (given tt) nameRefused) nameRefused ≡ refusal number
-        → cond zeros (cond ok name noName) noName ≡ noName
-    go true true name is = let never : _≡_ {A = ℕ} 0 1 = cc in absurd (omega arith)
-    go true false name is = refl
-    go false ok name is = refl
 
 pub nothing-named : (e : RawEntry) {number : ℕ} → paddedCheck (e .name) ≡ refusal number → (foundKind e ≡ FoundKind.Nothing) × (foundKindName e ≡ noName)
 unfolding foundKind foundKindName

@@ -1,5 +1,8 @@
 pub mod RowLaws
+pub mod FilledLaws
 pub mod SweepLaws
 pub mod LendLaws
+pub mod WalkLaws
+pub mod RowTypes
 pub mod SameJudge
 pub mod JudgeExamples

@@ -1,109 +1,92 @@
--- The judge over a row of pairs answers as the judge over the frames filled from them, verdict by verdict: the frames decode to the
--- pairs' parts, and no value of theirs is out of range.
-use mathlib.Core.Path.{_≡_, refl, sym, ap, ap₂, _∙_}
+-- The judge over a row of pairs answers as the judge over the frames filled from them, verdict by verdict: a row's values are those of its
+-- type, so the parts that the frames are filled with fit their fields.
+use mathlib.Core.Path.{_≡_, refl, ap, _∙_}
 use mathlib.Core.Bool.{Bool, true, false, cond}
-use mathlib.Core.List.{List, [], _∷_, _++_}
-use Prim.Native.Nat.{ℕ, _+_, _*_, _%_, _≤_, _<_}
+use mathlib.Core.List.{List, [], _∷_}
+use Prim.Native.Nat.{ℕ, _*_}
 use native.Mathlib.Omega.{arith}
-use borrow.Author.Tests.{eq-eqb, le-leb}
-use lib.Dec.{eqb, leb, lit≤}
-use lib.ListN.{length, drop, length-append}
-use lib.Seq.{drop-at, drop-drop}
-use Rattle.codec.proofs.CursorLaws.{length-bytes}
-use Rattle.slot.specs.Status.{code, validInfo}
+use lib.Dec.{eqb}
+use lib.ListN.{length}
+use mir.Val.{Val}
+use denote.Laws.{Is}
+use denote.Struct.Laws as LL
+use denote.Enum.Laws as EL
+use Rattle.slot.specs.Status.{validInfo}
+use Rattle.slot.specs.declared.slot.SlotInfo.{SlotInfo}
 use Rattle.slot.specs.declared.slot.SlotStatus.{SlotStatus}
-use Rattle.slot.specs.declared.slot.ValidInfo.{ValidInfo}
 use Rattle.slot.specs.declared.slot.HeaderFacts.{HeaderFacts}
-use Rattle.frame.specs.Frame.{partWidth, partBy, partBytes, partFrom}
-use Rattle.frame.specs.declared.frame.SlotPart.{SlotPart}
-use Rattle.frame.proofs.PartLaws.{PartFits, part-read}
-use Rattle.verdict.specs.declared.pairs.PairPart.{PairPart}
+use Rattle.slot.proofs.slot.SlotInfo as I
+use Rattle.slot.proofs.slot.SlotInfo.Laws as I′
+use Rattle.slot.proofs.slot.SlotStatus as St
+use Rattle.slot.proofs.slot.SlotStatus.Laws as St′
+use Rattle.slot.proofs.slot.HeaderFacts as F
+use Rattle.slot.proofs.slot.HeaderFacts.Laws as F′
+use Rattle.slot.proofs.slot.NumberedHeader as H
+use Rattle.slot.proofs.slot.NumberedHeader.Laws as H′
+use Rattle.frame.proofs.PartLaws.{InfoFits, ValidFits, FactsFit, part-range, part-fits}
 use Rattle.verdict.specs.declared.verdict.PairVerdict.{PairVerdict}
 use Rattle.verdict.specs.Verdict.{verdictBytes}
-use Rattle.verdict.proofs.NumberLaws.{same-test}
+use Rattle.verdict.specs.Judge.{verdicts}
 use Rattle.judge.specs.declared.SlotRead.{SlotRead}
 use Rattle.judge.specs.declared.PairRead.{PairRead}
-use Rattle.judge.specs.Frames.{frameWidth, verdictWidth, pairs, pairFrom, row, partInRange, pairInRange, inRange, refusal, judged, judgedBytes}
-use Rattle.judge.specs.Row.{partRead, pairRead, rowRead, refusedRow, rowJudged, rowVerdicts, framesOf, markOf}
+use Rattle.judge.specs.Frames.{verdictWidth, judged, judgedBytes}
+use Rattle.judge.specs.Row.{partRead, rowRead, refusedRow, rowJudged, rowVerdicts, framesOf, markOf}
+use Rattle.judge.proofs.SlotRead as R
+use Rattle.judge.proofs.SlotRead.Laws as R′
+use Rattle.judge.proofs.PairRead as P
+use Rattle.judge.proofs.PairRead.Laws as P′
+use Rattle.judge.proofs.FilledLaws.{Filled, AllFilled, filled-judged, filled-bytes}
 
--- ---- a part as read is in range
+-- ---- what the types of the row's records say of its values
 
-code-small : (st : SlotStatus) → code st ≤ 12
-code-small SlotStatus.ReadError = lit≤ tt
-code-small SlotStatus.BadLength = lit≤ tt
-code-small SlotStatus.Blank = lit≤ tt
-code-small SlotStatus.BadMagic = lit≤ tt
-code-small SlotStatus.BadHeaderCrc = lit≤ tt
-code-small (SlotStatus.UnsupportedVersion major) = lit≤ tt
-code-small (SlotStatus.Incompatible flags) = lit≤ tt
-code-small SlotStatus.Malformed = lit≤ tt
-code-small SlotStatus.Foreign = lit≤ tt
-code-small SlotStatus.WrongObject = lit≤ tt
-code-small SlotStatus.Misplaced = lit≤ tt
-code-small SlotStatus.BadPayloadCrc = lit≤ tt
-code-small (SlotStatus.Valid i) = lit≤ tt
+info-fits : (i : SlotInfo) (vs : List Val) → Is I.the-row i vs → InfoFits i
+info-fits i vs is =
+    let owed = LL.owed I.the-type I′.the-laws i vs is in
+    record { generation = owed .0 .1; own = owed .1 .1 .0 .1; prev = owed .1 .1 .1 .0 .1; number = owed .1 .1 .1 .1 .1 .1 .0 .1 }
 
-part-code : (c : ℕ) (f : HeaderFacts) (i : ValidInfo) → c ≤ 12 → partBy c f i .code ≤ 12
-part-code c f (ValidInfo.Info i) small = lit≤ tt
-part-code c HeaderFacts.Nothing ValidInfo.Nothing small = small
-part-code c (HeaderFacts.Stored crc) ValidInfo.Nothing small = small
-part-code c (HeaderFacts.Numbered crc n) ValidInfo.Nothing small = small
+status-fits : (st : SlotStatus) (vs : List Val) → Is St.the-row st vs → ValidFits (validInfo st)
+status-fits SlotStatus.ReadError vs is = ValidFits.nothing
+status-fits SlotStatus.BadLength vs is = ValidFits.nothing
+status-fits SlotStatus.Blank vs is = ValidFits.nothing
+status-fits SlotStatus.BadMagic vs is = ValidFits.nothing
+status-fits SlotStatus.BadHeaderCrc vs is = ValidFits.nothing
+status-fits (SlotStatus.UnsupportedVersion major) vs is = ValidFits.nothing
+status-fits (SlotStatus.Incompatible flags) vs is = ValidFits.nothing
+status-fits SlotStatus.Malformed vs is = ValidFits.nothing
+status-fits SlotStatus.Foreign vs is = ValidFits.nothing
+status-fits SlotStatus.WrongObject vs is = ValidFits.nothing
+status-fits SlotStatus.Misplaced vs is = ValidFits.nothing
+status-fits SlotStatus.BadPayloadCrc vs is = ValidFits.nothing
+status-fits (SlotStatus.Valid i) vs is = ValidFits.valid (info-fits i _ (EL.owed St.the-type St′.the-laws (SlotStatus.Valid i) vs is .0))
 
-part-facts : (c : ℕ) (f : HeaderFacts) (i : ValidInfo) → partBy c f i .facts ≤ 2
-part-facts c HeaderFacts.Nothing (ValidInfo.Info i) = lit≤ tt
-part-facts c (HeaderFacts.Stored crc) (ValidInfo.Info i) = lit≤ tt
-part-facts c (HeaderFacts.Numbered crc n) (ValidInfo.Info i) = lit≤ tt
-part-facts c HeaderFacts.Nothing ValidInfo.Nothing = lit≤ tt
-part-facts c (HeaderFacts.Stored crc) ValidInfo.Nothing = lit≤ tt
-part-facts c (HeaderFacts.Numbered crc n) ValidInfo.Nothing = lit≤ tt
+facts-fit : (f : HeaderFacts) (vs : List Val) → Is F.the-row f vs → FactsFit f
+facts-fit HeaderFacts.Nothing vs is = FactsFit.nothing
+facts-fit (HeaderFacts.Stored crc) vs is = FactsFit.stored (EL.owed F.the-type F′.the-laws (HeaderFacts.Stored crc) vs is .0 .1)
+facts-fit (HeaderFacts.Numbered crc n) vs is =
+    let fields = EL.owed F.the-type F′.the-laws (HeaderFacts.Numbered crc n) vs is in
+    let header = LL.owed H.the-type H′.the-laws n _ (fields .1 .0) in
+    FactsFit.numbered (fields .0 .1) (header .0 .1) (header .1 .0 .1) (header .1 .1 .0 .1)
 
-part-in-range : (s : SlotRead) → partInRange (partRead s) ≡ true
-unfolding partInRange
-part-in-range s =
-    simp
-    (le-leb _ _ (part-code (code (s .status)) (s .facts) (validInfo (s .status)) (code-small (s .status))), le-leb _ _ (part-facts (code (s .status)) (s .facts) (validInfo (s .status))))
+slot-filled : (s : SlotRead) (vs : List Val) → Is R.the-row s vs → Filled (partRead s)
+slot-filled s vs is =
+    let fields = LL.owed R.the-type R′.the-laws s vs is in
+    record {
+      fits = part-fits (s .status) (s .facts) (status-fits (s .status) _ (fields .0)) (facts-fit (s .facts) _ (fields .1 .0));
+      range = part-range (s .status) (s .facts);
+    }
 
-row-in-range : (ps : List PairRead) → inRange (rowRead ps) ≡ true
-unfolding pairInRange
-row-in-range [] = refl
-row-in-range (p ∷ ps) = simp (part-in-range (p .a), part-in-range (p .b), row-in-range ps)
+-- Every pair is a value of its type.
+pub data RowTyped : List PairRead → Type 0 where
+  none : RowTyped []
+  more : {p : PairRead} {ps : List PairRead} (vs : List Val) → Is P.the-row p vs → RowTyped ps → RowTyped (p ∷ ps)
 
--- ---- frames decode to the parts that they are filled from
+row-filled : (ps : List PairRead) → RowTyped ps → AllFilled (rowRead ps)
+row-filled [] typed = AllFilled.none
+row-filled (p ∷ ps) (RowTyped.more vs is rest) =
+    let fields = LL.owed P.the-type P′.the-laws p vs is in
+    AllFilled.more (slot-filled (p .a) _ (fields .0)) (slot-filled (p .b) _ (fields .1 .0)) (row-filled ps rest)
 
--- What the fields' types say of a row.
-pub data RowFits : List PairPart → Type 0 where
-  none : RowFits []
-  more : {p : PairPart} {ps : List PairPart} → PartFits (p .a) → PartFits (p .b) → RowFits ps → RowFits (p ∷ ps)
-
-length-part : (p : SlotPart) → length (partBytes p) ≡ partWidth
-unfolding partBytes
-length-part p = simp (length-append, length-bytes)
-
-part-next : (p : SlotPart) (rest : List ℕ) → drop partWidth (partBytes p ++ rest) ≡ rest
-part-next p rest = drop-at (partBytes p) rest partWidth (length-part p)
-
-pair-decoded : (p : PairPart) → PartFits (p .a) → PartFits (p .b) → (rest : List ℕ) → pairFrom (partBytes (p .a) ++ (partBytes (p .b) ++ rest)) ≡ p
-unfolding pairFrom
-pair-decoded p a-fits b-fits rest =
-    let first = part-read (p .a) a-fits (partBytes (p .b) ++ rest) in
-    let second = part-read (p .b) b-fits rest in
-    ap₂ {C = PairPart} (λ (a b : SlotPart). record { a = a; b = b }) first (ap partFrom (part-next (p .a) (partBytes (p .b) ++ rest)) ∙ second)
-
-pair-next : (p : PairPart) (rest : List ℕ) → drop frameWidth (partBytes (p .a) ++ (partBytes (p .b) ++ rest)) ≡ rest
-pair-next p rest =
-    sym (drop-drop partWidth partWidth (partBytes (p .a) ++ (partBytes (p .b) ++ rest)))
-    ∙ ap (drop partWidth) (part-next (p .a) (partBytes (p .b) ++ rest))
-    ∙ part-next (p .b) rest
-
-row-decoded : (ps : List PairPart) → RowFits ps → row (length ps) (framesOf ps) ≡ ps
-row-decoded [] fits = refl
-row-decoded (p ∷ ps) (RowFits.more a-fits b-fits rest) =
-    ap₂ (λ (part : PairPart) (others : List PairPart). part ∷ others) (pair-decoded p a-fits b-fits (framesOf ps))
-    (ap (row (length ps)) (pair-next p (framesOf ps)) ∙ row-decoded ps rest)
-
-length-frames : (ps : List PairPart) → length (framesOf ps) ≡ length ps * frameWidth
-length-frames [] = refl
-length-frames (p ∷ ps) = simp (length-append, length-part, length-frames ps) (omega arith)
+-- ---- both judges
 
 length-read : (ps : List PairRead) → length (rowRead ps) ≡ length ps
 length-read [] = refl
@@ -113,47 +96,20 @@ length-verdicts : (vs : List PairVerdict) → length (verdictBytes vs) ≡ lengt
 length-verdicts [] = refl
 length-verdicts (v ∷ vs) = simp (length-verdicts vs) (omega arith)
 
--- ---- both judges
-
-mark-small : (clean : Bool) → leb (markOf clean) 1 ≡ true
-mark-small true = refl
-mark-small false = refl
-
-mark-read : (clean : Bool) → eqb (markOf clean) 1 ≡ clean
-mark-read true = refl
-mark-read false = refl
-
 either-bytes : (test : Bool) (xs ys : List PairVerdict) → cond test (verdictBytes xs) (verdictBytes ys) ≡ verdictBytes (cond test xs ys)
 either-bytes true xs ys = refl
 either-bytes false xs ys = refl
 
-module _ (ps : List PairRead) (fits : RowFits (rowRead ps)) (clean : Bool) where
-  abbrev frames : List ℕ
-  frames = framesOf (rowRead ps)
+module _ (ps : List PairRead) (typed : RowTyped ps) (clean : Bool) where
+  pub same-answer : (room : ℕ) → judged (framesOf (rowRead ps)) (markOf clean) (room * verdictWidth) ≡ rowJudged ps clean room
+  unfolding rowJudged
+  same-answer room = simp length-read at (filled-judged (rowRead ps) (row-filled ps typed) clean room)
 
-  long : length frames ≡ length ps * 52
-  long = length-frames (rowRead ps) ∙ ap (λ (n : ℕ). n * 52) (length-read ps)
-
-  pairs-are : pairs frames ≡ length ps
-  pairs-are = omega (arith, long)
-
-  row-is : row (pairs frames) frames ≡ rowRead ps
-  row-is = ap (λ (n : ℕ). row n frames) (pairs-are ∙ sym (length-read ps)) ∙ row-decoded (rowRead ps) fits
-
-  same-refusal : (room : ℕ) → refusal frames (markOf clean) (room * verdictWidth) ≡ refusedRow (length ps) room
-  unfolding refusal refusedRow
-  same-refusal room =
-      let whole : length frames % frameWidth ≡ 0 = omega (arith, long) in
-      let empty : eqb (length frames) 0 ≡ eqb (length ps) 0 =
-      same-test (length frames) 0 (length ps) 0 (λ is. omega (arith, long, is)) (λ is. omega (arith, long, is)) in
-      let rooms : eqb (room * verdictWidth) (length ps * verdictWidth) ≡ eqb room (length ps) =
-      same-test (room * verdictWidth) (length ps * verdictWidth) room (length ps) (λ is. omega (arith, is)) (λ is. omega (arith, is)) in
-      rw (empty, eq-eqb (length frames % frameWidth) 0 whole, row-is, pairs-are, rooms, mark-small clean, row-in-range ps) refl
-
-  pub same-answer : (room : ℕ) → judged frames (markOf clean) (room * verdictWidth) ≡ rowJudged ps clean room
-  unfolding judged rowJudged
-  same-answer room = simp (same-refusal room, row-is, mark-read clean)
-
-  pub same-verdicts : (out : List PairVerdict) → judgedBytes frames (markOf clean) (verdictBytes out) ≡ verdictBytes (rowVerdicts ps clean out)
-  unfolding judgedBytes rowVerdicts
-  same-verdicts out = simp (length-verdicts out, same-refusal (length out), row-is, mark-read clean, either-bytes)
+  pub same-verdicts : (out : List PairVerdict)
+      → judgedBytes (framesOf (rowRead ps)) (markOf clean) (verdictBytes out) ≡ verdictBytes (rowVerdicts ps clean out)
+  unfolding rowVerdicts
+  same-verdicts out =
+      let by-frames = filled-bytes (rowRead ps) (row-filled ps typed) clean (verdictBytes out) (length out) (length-verdicts out) in
+      by-frames
+      ∙ ap (λ (n : ℕ). cond (eqb (refusedRow n (length out)) 0) (verdictBytes (verdicts (rowRead ps) clean)) (verdictBytes out)) (length-read ps)
+      ∙ either-bytes (eqb (refusedRow (length ps) (length out)) 0) (verdicts (rowRead ps) clean) out

@@ -3,7 +3,7 @@
 use mathlib.Core.Path.{_≡_, refl, sym, ap, ap₂, _∙_}
 use mathlib.Core.Bool.{Bool, true, false, cond}
 use mathlib.Core.List.{List, [], _∷_, _++_, append-assoc}
-use Prim.Native.Nat.{ℕ, suc, _+_, _*_, _≤_, _<_}
+use Prim.Native.Nat.{ℕ, suc, _+_, _≤_, _<_}
 use native.Mathlib.Numerals.{add-one}
 use native.Mathlib.Nat.{min-eq-left}
 use native.Mathlib.Omega.{arith}
@@ -15,7 +15,7 @@ use Rattle.verdict.specs.declared.pairs.PairPart.{PairPart}
 use Rattle.verdict.specs.declared.numbers.Maxima.{Maxima}
 use Rattle.verdict.specs.declared.verdict.PairVerdict.{PairVerdict}
 use Rattle.verdict.specs.declared.verdict.Standing.{Standing}
-use Rattle.verdict.specs.Pairs.{numbered, pairCase}
+use Rattle.verdict.specs.Pairs.{numbered}
 use Rattle.verdict.specs.Numbers.{slots}
 use Rattle.verdict.specs.Maxima.{noteSeq, noteAll}
 use Rattle.verdict.specs.Verdict.{noWinner, inFlight}
@@ -63,7 +63,8 @@ chosen-counted : (numbers first : Bool) (s : Progress) (i : ℕ) (p : PairRead) 
     → countedBy numbers first (chosen numbers first s i p v .progress) ≤ countedBy numbers first s + 2
 unfolding numberPair judgePair settlePair
 chosen-counted true first s i p v =
-    omega (arith, note-count (s .maxima) (numbered (pairRead p .a)), note-count (noteSeq (s .maxima) (numbered (pairRead p .a))) (numbered (pairRead p .b)))
+    let first = numbered (pairRead p .a) in
+    omega (arith, note-count (s .maxima) first, note-count (noteSeq (s .maxima) first) (numbered (pairRead p .b)))
 chosen-counted false true s i p v = omega (arith, count-grows (firstVerdict s (pairRead p)) (s .tally .candidates))
 chosen-counted false false s i p v = omega arith
 
@@ -73,7 +74,8 @@ pub step-counted : (pass : ℕ) (s : Progress) (i : ℕ) (p : PairRead) (v : Pai
 unfolding counted stepped
 step-counted pass s i p v = chosen-counted (eqb pass 0) (eqb pass 1) s i p v
 
-chosen-count : (numbers first : Bool) (s : Progress) (i : ℕ) (p : PairRead) (v : PairVerdict) → chosen numbers first s i p v .progress .count ≡ s .count
+chosen-count : (numbers first : Bool) (s : Progress) (i : ℕ) (p : PairRead) (v : PairVerdict)
+    → chosen numbers first s i p v .progress .count ≡ s .count
 unfolding numberPair judgePair settlePair
 chosen-count true first s i p v = refl
 chosen-count false true s i p v = refl
@@ -117,7 +119,8 @@ module _ (ps : List PairRead) (n i : ℕ) (fits : n ≤ length ps) where
     here = stepAt pass s i (getD ps i noPair) vs
 
     pub row-next : i < n
-        → rowFromPair pass s i (drop i (take n ps)) vs ≡ rowFromPair pass (here .progress) (i + 1) (drop (i + 1) (take n ps)) (set vs i (here .verdict))
+        → rowFromPair pass s i (drop i (take n ps)) vs
+        ≡ rowFromPair pass (here .progress) (i + 1) (drop (i + 1) (take n ps)) (set vs i (here .verdict))
     row-next more = ap (λ (rest : List PairRead). rowFromPair pass s i rest vs) (next-pair more)
 
     pub verdicts-next : i < n

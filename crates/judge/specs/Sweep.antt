@@ -55,41 +55,19 @@ finished s =
     }))
     (Judged.Refusal (s .refusal))
 
+-- With what a pass changes.
+abbrev pub carried : Progress → Maxima → Tally → PairVerdict → Heal → Progress
+carried s m t v h =
+    record { count = s .count; refusal = s .refusal; «clean_close» = s .«clean_close»; maxima = m; tally = t; volume = v; heal = h }
+
 abbrev pub withMaxima : Progress → Maxima → Progress
-withMaxima s m =
-    record {
-      count = s .count;
-      refusal = s .refusal;
-      «clean_close» = s .«clean_close»;
-      maxima = m;
-      tally = s .tally;
-      volume = s .volume;
-      heal = s .heal;
-    }
+withMaxima s m = carried s m (s .tally) (s .volume) (s .heal)
 
 abbrev pub withTally : Progress → Tally → PairVerdict → Progress
-withTally s t v =
-    record {
-      count = s .count;
-      refusal = s .refusal;
-      «clean_close» = s .«clean_close»;
-      maxima = s .maxima;
-      tally = t;
-      volume = v;
-      heal = s .heal;
-    }
+withTally s t v = carried s (s .maxima) t v (s .heal)
 
 abbrev pub withHeal : Progress → Heal → Progress
-withHeal s h =
-    record {
-      count = s .count;
-      refusal = s .refusal;
-      «clean_close» = s .«clean_close»;
-      maxima = s .maxima;
-      tally = s .tally;
-      volume = s .volume;
-      heal = h;
-    }
+withHeal s h = carried s (s .maxima) (s .tally) (s .volume) h
 
 -- ---- one pair
 

@@ -29,12 +29,11 @@ ghost use mathlib.Core.Bool.{cond};
 ghost use lib.Dec.{eqb};
 ghost use Prim.Native.Nat.{_+_, _*_, _≤_, _<_, _^_};
 ghost use lib.ListN.{length};
-ghost use Rattle.frame.specs.Frame.{partOf};
 ghost use Rattle.verdict.specs.Pairs.{numbered};
 ghost use Rattle.verdict.specs.Maxima.{note, noteSeq};
 ghost use Rattle.verdict.specs.Judge.{count, tallied};
 ghost use Rattle.judge.specs.Row.{partRead, pairRead, refusedRow, rowJudged, rowVerdicts};
-ghost use Rattle.judge.specs.Sweep.{begun, numberPair, judgePair, settlePair, counted, stepped, sweptRow, sweptVerdicts, finished};
+ghost use Rattle.judge.specs.Sweep.{begun, carried, numberPair, judgePair, settlePair, counted, stepped, sweptRow, sweptVerdicts, finished};
 
 pub mod frames;
 
@@ -172,14 +171,10 @@ fn pair_read(p: PairRead) -> PairPart
 
 // ---- one pair in one pass
 
-fn number_pair(s: Progress, p: PairPart) -> Progress
-    requires { ⌜ s .maxima .«max1_count» < 2 ^ 62 ⌝ }
-    ensures { λ r. ⌜ r ≡ numberPair s p ⌝ }
+// What is carried on, with what a pass changes.
+fn carried(s: Progress, maxima: Maxima, tally: Tally, volume: PairVerdict, heal: Heal) -> Progress
+    ensures { λ r. ⌜ r ≡ carried s maxima tally volume heal ⌝ }
 {
-    let maxima = note_pair(s.maxima, p);
-    let tally = s.tally;
-    let volume = s.volume;
-    let heal = s.heal;
     Progress {
         count: s.count,
         refusal: s.refusal,
@@ -189,6 +184,17 @@ fn number_pair(s: Progress, p: PairPart) -> Progress
         volume,
         heal,
     }
+}
+
+fn number_pair(s: Progress, p: PairPart) -> Progress
+    requires { ⌜ s .maxima .«max1_count» < 2 ^ 62 ⌝ }
+    ensures { λ r. ⌜ r ≡ numberPair s p ⌝ }
+{
+    let maxima = note_pair(s.maxima, p);
+    let tally = s.tally;
+    let volume = s.volume;
+    let heal = s.heal;
+    carried(s, maxima, tally, volume, heal)
 }
 
 fn volume_verdict(first: bool, verdict: PairVerdict, known: PairVerdict) -> PairVerdict
@@ -210,15 +216,7 @@ fn judge_pair(s: Progress, first: bool, p: PairPart) -> Stepped
     let verdict = verdict::verdict::pair_verdict(maxima, case);
     let tally = tallied(before, first, case, verdict);
     let volume = volume_verdict(first, verdict, known);
-    let progress = Progress {
-        count: s.count,
-        refusal: s.refusal,
-        clean_close: s.clean_close,
-        maxima,
-        tally,
-        volume,
-        heal,
-    };
+    let progress = carried(s, maxima, tally, volume, heal);
     Stepped { progress, verdict }
 }
 
@@ -234,15 +232,7 @@ fn settle_pair(s: Progress, i: usize, v: PairVerdict) -> Stepped
     let demote = demotes(i == 0, rules.volume_demote, rules.page_demote);
     let verdict = verdict::verdict::demoted(demote, v);
     let heal = verdict::verdict::heal_of(i, before, verdict);
-    let progress = Progress {
-        count: s.count,
-        refusal: s.refusal,
-        clean_close: s.clean_close,
-        maxima,
-        tally,
-        volume,
-        heal,
-    };
+    let progress = carried(s, maxima, tally, volume, heal);
     Stepped { progress, verdict }
 }
 

@@ -10,7 +10,7 @@ use lib.Dec.{ltb, eqb}
 use lib.ListN.{length, take, drop, replicate, length-drop, length-replicate, replicate-append-replicate, take-append-drop}
 use lib.Seq.{length-take-le, take-at, drop-at}
 use Rattle.codec.specs.Bytes.{allZero, put, putWhole}
-use Rattle.codec.specs.Outcome.{given}
+use Rattle.codec.specs.Outcome.{given, refusal}
 use Rattle.codec.proofs.CursorLaws.{put-whole}
 use Rattle.name.specs.Utf8.{utf8}
 use Rattle.name.specs.Name.{zeroAt, nameOk, nameRefused, nameCheck, noName, nameOf, paddedCheck, paddedName}
@@ -130,6 +130,17 @@ module _ (raw : List ℕ) where
           ∙ ap (λ (n : ℕ). text ++ replicate n 0) (sym behind)
           ∙ ap (λ (l : List ℕ). text ++ l) (sym (all-zeros padding test))
           ∙ take-append-drop (zeroAt raw) raw
+
+  -- What does not pass as a name is none.
+  pub padded-none : {number : ℕ} → paddedCheck raw ≡ refusal number → paddedName raw ≡ noName
+  unfolding paddedCheck paddedName nameCheck nameOf
+  padded-none {number} is = go (allZero padding) (nameOk text) _ is
+    where
+      go : (zeros ok : Bool) (name : RegionName) → cond zeros (cond ok (given tt) nameRefused) nameRefused ≡ refusal number
+          → cond zeros (cond ok name noName) noName ≡ noName
+      go true true name is = let never : _≡_ {A = ℕ} 0 1 = cc in absurd (omega arith)
+      go true false name is = refl
+      go false ok name is = refl
 
 -- A name that is stored is read back.
 module _ (s : List ℕ) (ok : nameOk s ≡ true) where

@@ -16,11 +16,16 @@ tallied-requires c κs = search needs
 volume-verdict-requires : tie.Need-volume-verdict-requires
 volume-verdict-requires c κs = search needs
 
+carried-requires : tie.Need-carried-requires
+carried-requires c κs = search needs
+
 returns : tie.Need-returns
 unfolding judgePair
 returns c =
-    let judged = c .before .before in
-    simp (c .volume-verdict .ensures, c .before .tallied .ensures .0, judged .pair-verdict .ensures, judged .before .pair-case .ensures)
+    let tallied = c .before .before in
+    let judged = tallied .before in
+    let verdict = judged .pair-verdict .ensures in
+    simp (c .carried .ensures, c .before .volume-verdict .ensures, tallied .tallied .ensures .0, verdict, judged .before .pair-case .ensures)
 
 pub judge-pair-spec : {M : Type 1} → statement M
 judge-pair-spec =
@@ -30,4 +35,5 @@ judge-pair-spec =
     pair-verdict-requires
     tallied-requires
     volume-verdict-requires
+    carried-requires
     returns)

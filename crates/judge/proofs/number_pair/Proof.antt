@@ -1,6 +1,5 @@
 -- `number_pair` meets its contract: the maxima alone change.
-use mathlib.Core.Path.{ap}
-use Rattle.judge.specs.Sweep.{numberPair, withMaxima}
+use Rattle.judge.specs.Sweep.{numberPair}
 use borrow.Author.Needs.{needs}
 use Rattle.judge.proofs.number_pair.Statement.{statement}
 use Rattle.judge.proofs.number_pair.Tie as tie
@@ -8,9 +7,12 @@ use Rattle.judge.proofs.number_pair.Tie as tie
 note-pair-requires : tie.Need-note-pair-requires
 note-pair-requires c κs = search needs
 
+carried-requires : tie.Need-carried-requires
+carried-requires c κs = search needs
+
 returns : tie.Need-returns
 unfolding numberPair
-returns c = ap (withMaxima (c .before .before .before .args .s)) (c .before .before .note-pair .ensures .0)
+returns c = simp (c .carried .ensures, c .before .before .before .note-pair .ensures .0)
 
 pub number-pair-spec : {M : Type 1} → statement M
-number-pair-spec = tie.close (tie.spec note-pair-requires returns)
+number-pair-spec = tie.close (tie.spec note-pair-requires carried-requires returns)

@@ -16,13 +16,18 @@ demoted-requires c κs = search needs
 heal-of-requires : tie.Need-heal-of-requires
 heal-of-requires c κs = search needs
 
+carried-requires : tie.Need-carried-requires
+carried-requires c κs = search needs
+
 returns : tie.Need-returns
 unfolding settlePair
 returns c =
-    let ruled = c .before .before in
-    simp (c .heal-of .ensures, c .before .demoted .ensures, ruled .demotes .ensures, ruled .before .store-rules .ensures)
+    let healed = c .before in
+    let demoted = healed .before in
+    let ruled = demoted .before in
+    simp (c .carried .ensures, healed .heal-of .ensures, demoted .demoted .ensures, ruled .demotes .ensures, ruled .before .store-rules .ensures)
 
 pub settle-pair-spec : {M : Type 1} → statement M
 settle-pair-spec =
     tie.close
-    (tie.spec store-rules-requires demotes-requires demoted-requires heal-of-requires returns)
+    (tie.spec store-rules-requires demotes-requires demoted-requires heal-of-requires carried-requires returns)
