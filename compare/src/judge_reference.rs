@@ -1,7 +1,7 @@
 //! What the Rust reference answers to one call of the judge.
 
 use crate::frames::{FRAME, HALF};
-use crate::judge::{self, Judgement, PairRead, PairVerdict, SlotRead, SlotVerdict, Standing};
+use crate::judge::{self, JudgeError, Judgement, PairRead, PairVerdict, SlotRead, SlotVerdict, Standing};
 use crate::slot::{HeaderFacts, NumberedHeader, SlotInfo};
 use crate::slot_reference::{index_number, some_info, status};
 
@@ -35,6 +35,19 @@ pub fn judge(frames: &[u8], clean: u8, verdicts_len: usize) -> Result<Judged, u3
     let mut verdicts = vec![NOT_JUDGED; pairs.len()];
     let judgement = judge::judge(&pairs, clean == 1, &mut verdicts).expect("the reference refuses a row of pairs");
     Ok(Judged { verdicts: verdicts.iter().flat_map(verdict_bytes).collect(), judgement: judgement_numbers(&judgement) })
+}
+
+/// The refusal of the pairs of whole frames where `room` verdicts are lent, and the verdicts that are left.
+pub fn judge_records(frames: &[u8], clean: bool, room: usize) -> (u32, Vec<u8>) {
+    let mut pairs = Vec::new();
+    assert!(decode(&some_info(), frames, &mut pairs), "a value is out of range");
+    let mut verdicts = vec![NOT_JUDGED; room];
+    let refusal = match judge::judge(&pairs, clean, &mut verdicts) {
+        Err(JudgeError::Empty) => NO_PAIR,
+        Err(JudgeError::OutputLength) => VERDICTS_LEN,
+        Ok(_) => panic!("the reference judges the row"),
+    };
+    (refusal, verdicts.iter().flat_map(verdict_bytes).collect())
 }
 
 /// A verdict to be overwritten.

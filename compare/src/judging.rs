@@ -13,10 +13,9 @@ const JUDGE: &str = "sio_judge";
 const VOLUME: &str = "sio_judge: volume";
 const PAGE: &str = "sio_judge: page";
 
-const ANSWERS: &[Answer] = &[
-    Answer::Refusal(NO_PAIR),
-    Answer::Refusal(VERDICTS_LEN),
-    Answer::Refusal(BAD_FRAMES),
+const REFUSALS: &[Answer] = &[Answer::Refusal(NO_PAIR), Answer::Refusal(VERDICTS_LEN), Answer::Refusal(BAD_FRAMES)];
+
+pub const JUDGEMENTS: &[Answer] = &[
     Answer::Decision("heal volume A"),
     Answer::Decision("heal volume B"),
     Answer::Decision("heal page A"),
@@ -32,7 +31,7 @@ const TORN_HEADER: &str = "torn header not healed";
 const TORN_PAYLOAD: &str = "torn payload not healed";
 
 /// The verdicts on a pair. "Not healed" is Damage in a slot that is InFlight where its pair is the whole store.
-const VERDICTS: &[Answer] = &[
+pub const VERDICTS: &[Answer] = &[
     Answer::Decision("Confirmed A, B Nothing"),
     Answer::Decision("Confirmed A, B OlderDamaged"),
     Answer::Decision("Confirmed A, B InFlight"),
@@ -48,7 +47,12 @@ const VERDICTS: &[Answer] = &[
 ];
 
 pub const PART: Part = Part {
-    functions: &[Function::new(JUDGE, ANSWERS), Function::part(VOLUME, VERDICTS), Function::part(PAGE, VERDICTS)],
+    functions: &[
+        Function::new(JUDGE, REFUSALS),
+        Function::new(JUDGE, JUDGEMENTS),
+        Function::part(VOLUME, VERDICTS),
+        Function::part(PAGE, VERDICTS),
+    ],
     sweep,
     round,
 };
@@ -109,7 +113,7 @@ pub fn compare(run: &mut Run, call: &Call) -> Checked {
     let expected = judge(&call.frames, call.clean, call.verdicts_len);
     if let Ok(judged) = &expected {
         verdicts.expected_mut().copy_from_slice(&judged.verdicts);
-        count_verdicts(run, &call.frames, judged);
+        count_verdicts(run, [VOLUME, PAGE], &call.frames, judged);
     }
     let expected_refusal = expected.as_ref().map_or_else(|refusal| *refusal, |_| 0);
     let expected_judgement = expected.as_ref().ok().map(|judged| judged.judgement);
@@ -138,10 +142,13 @@ pub fn compare(run: &mut Run, call: &Call) -> Checked {
 }
 
 fn answer(judged: &Result<Judged, u32>) -> Answer {
-    let judged = match judged {
-        Ok(judged) => judged,
-        Err(refusal) => return Answer::Refusal(*refusal),
-    };
+    match judged {
+        Ok(judged) => judgement_answer(judged),
+        Err(refusal) => Answer::Refusal(*refusal),
+    }
+}
+
+pub fn judgement_answer(judged: &Judged) -> Answer {
     Answer::Decision(match judged.judgement {
         [1, 0, 1, 0, 0] => "heal volume A",
         [2, 0, 1, 0, 0] => "heal volume B",
@@ -156,10 +163,11 @@ fn answer(judged: &Result<Judged, u32>) -> Answer {
     })
 }
 
-fn count_verdicts(run: &mut Run, frames: &[u8], judged: &Judged) {
+/// Counts the volume record's verdict under one name, the pages' under another.
+pub fn count_verdicts(run: &mut Run, [volume, page]: [&'static str; 2], frames: &[u8], judged: &Judged) {
     let pairs = frames.chunks_exact(FRAME).zip(judged.verdicts.chunks_exact(VERDICT));
     for (at, (frame, verdict)) in pairs.enumerate() {
-        let place = if at == 0 { VOLUME } else { PAGE };
+        let place = if at == 0 { volume } else { page };
         run.counts.add_part(place, Answer::Decision(verdict_name(verdict)));
         if let Some(name) = not_healed(frame, verdict) {
             run.counts.add_part(place, Answer::Decision(name));

@@ -12,11 +12,15 @@ const SEED: u64 = 0x5106;
 const LIMIT: usize = 60_000;
 
 pub struct List {
-    text: String,
+    pub text: String,
     pub rng: Rng,
 }
 
 impl List {
+    pub fn new(seed: u64) -> Self {
+        Self { text: String::new(), rng: Rng::new(seed) }
+    }
+
     pub fn line(&mut self, name: &str, input: &[u8], expected: &[u8]) {
         let line = format!("{name} {} {}\n", hex(input), hex(expected));
         self.text.push_str(&line);
@@ -30,7 +34,7 @@ impl List {
 }
 
 pub fn print(fill: fn(&mut List)) -> ExitCode {
-    let mut list = List { text: String::new(), rng: Rng::new(SEED) };
+    let mut list = List::new(SEED);
     fill(&mut list);
     print!("{}", list.text);
     if list.text.len() > LIMIT {

@@ -1,11 +1,14 @@
-//! The fixed list of the judge.
+//! The fixed list of the judge: rows for the judge over frames and the judge over records, and what one of them refuses.
 //!
-//! | NAME | INPUT | EXPECTED |
-//! |---|---|---|
-//! | jdg | clean (1), length of the verdicts (2), frames | refusal (1), where not refused JUDGEMENT and verdicts |
+//! | NAME | judges | INPUT | EXPECTED |
+//! |---|---|---|---|
+//! | jdg | both | MARK, frames | 0 (1), JUDGEMENT, verdicts |
+//! | frm | over frames | MARK, frames | refusal (1) |
+//! | row | over records | MARK, frames | refusal (1), verdicts as they were |
 //!
-//! The widths in bytes are in brackets. JUDGEMENT has five numbers (8 each): the slot to heal, its pair, writable, clean,
-//! refused. Frames and verdicts go to the end of their field. At a refusal verdicts and judgement are as they were.
+//! The widths in bytes are in brackets. MARK is the clean mark (1) and the length of the verdicts (2). JUDGEMENT has five
+//! numbers (8 each): the slot to heal, its pair, writable, clean, refused. Frames and verdicts go to the end of their
+//! field. At a refusal of the judge over frames verdicts and judgement are as they were.
 
 use crate::frames::{
     bad_header, bad_payload, nothing, packed, valid, Pair, Slot, BAD_HEADER, BLANK, BLANK_A, BLANK_B, FIRST, FORK,
@@ -13,7 +16,7 @@ use crate::frames::{
     OLDER_PAYLOAD_A, OLDER_PAYLOAD_B, REFUSED_A, REFUSED_B, SOUND_A, SOUND_B, TORN_HEADER_A, TORN_HEADER_B,
     TORN_PAYLOAD_A, TORN_PAYLOAD_B, UNREAD_A, UNREAD_B, VALID,
 };
-use crate::judge_reference::{judge, VERDICT};
+use crate::judge_reference::{judge, judge_records, Judged, VERDICT};
 use crate::list::List;
 use crate::value::Value;
 
@@ -67,7 +70,8 @@ const ROWS: &[(u8, &[Pair])] = &[
     (0, &[FIRST, [Slot { facts: 1, ..bad_payload(3, 3, 0x1111_1111) }, Slot { facts: 0, ..valid(2, 2) }]]),
 ];
 
-/// Clean mark, length of the frames, length of the verdicts, and a byte of the frames with its value.
+/// Of the judge over frames: clean mark, length of the frames, length of the verdicts, and a byte of the frames with its
+/// value.
 const REFUSALS: [(u8, usize, usize, usize, u8); 8] = [
     (2, 0, 1, 0, 0),
     (2, 1, 0, 0, 13),
@@ -79,22 +83,55 @@ const REFUSALS: [(u8, usize, usize, usize, u8); 8] = [
     (0, 2 * FRAME, 2 * VERDICT, 2 * HALF + 1, 3),
 ];
 
+/// Of the judge over records: clean mark, pairs, and as how many verdicts are lent.
+const ROW_REFUSALS: &[(u8, &[Pair], usize)] = &[
+    (0, &[], 0),
+    (1, &[], 1),
+    (0, &[], 5),
+    (0, &[FIRST], 0),
+    (1, &[SOUND_A], 2),
+    (0, &[SOUND_A, TORN_HEADER_A], 1),
+    (0, &[SOUND_A, TORN_PAYLOAD_A, SOUND_B], 5),
+    (1, &[SOUND_A, FIRST, SOUND_B, TORN_HEADER_B, FIRST], 4),
+];
+
 pub fn fill(list: &mut List) {
     for (clean, row) in ROWS {
-        line(list, *clean, row.len() * VERDICT, &packed(row));
+        let frames = packed(row);
+        both(list, *clean, &frames);
     }
     for (clean, frames_len, verdicts_len, at, value) in REFUSALS {
         let mut frames = packed(&[FIRST, SOUND_B, FIRST]);
         frames[at] = value;
-        line(list, clean, verdicts_len, &frames[..frames_len]);
+        over_frames(list, clean, verdicts_len, &frames[..frames_len]);
+    }
+    for (clean, row, room) in ROW_REFUSALS {
+        over_records(list, *clean, &packed(row), *room);
     }
 }
 
-fn line(list: &mut List, clean: u8, verdicts_len: usize, frames: &[u8]) {
-    let input = [vec![clean], (verdicts_len as u16).packed(), frames.to_vec()].concat();
-    let expected = match judge(frames, clean, verdicts_len) {
-        Ok(judged) => [vec![0], judged.judgement.packed(), judged.verdicts].concat(),
-        Err(refusal) => vec![refusal as u8],
-    };
-    list.line("jdg", &input, &expected);
+/// A row for both judges.
+pub fn both(list: &mut List, clean: u8, frames: &[u8]) -> Judged {
+    let verdicts_len = frames.len() / FRAME * VERDICT;
+    let judged = judge(frames, clean, verdicts_len).expect("the reference refuses a row of pairs");
+    let expected = [vec![0], judged.judgement.packed(), judged.verdicts.clone()].concat();
+    list.line("jdg", &input(clean, verdicts_len, frames), &expected);
+    judged
+}
+
+/// Frames that the judge over frames refuses.
+fn over_frames(list: &mut List, clean: u8, verdicts_len: usize, frames: &[u8]) {
+    let Err(refusal) = judge(frames, clean, verdicts_len) else { panic!("the reference refuses no such frames") };
+    list.line("frm", &input(clean, verdicts_len, frames), &[refusal as u8]);
+}
+
+/// A row that the judge over records refuses.
+pub fn over_records(list: &mut List, clean: u8, frames: &[u8], room: usize) -> u32 {
+    let (refusal, verdicts) = judge_records(frames, clean == 1, room);
+    list.line("row", &input(clean, room * VERDICT, frames), &[vec![refusal as u8], verdicts].concat());
+    refusal
+}
+
+fn input(clean: u8, verdicts_len: usize, frames: &[u8]) -> Vec<u8> {
+    [vec![clean], (verdicts_len as u16).packed(), frames.to_vec()].concat()
 }

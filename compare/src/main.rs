@@ -76,8 +76,10 @@ mod pages_sweep;
 mod pairs;
 mod part;
 mod places;
+mod program;
 mod reference;
 mod rng;
+mod rows;
 mod sample;
 mod slot_reference;
 mod slots;
@@ -123,8 +125,11 @@ const LONG_CUTS: u64 = 40_000_000;
 const QUICK_RUNS: u64 = 300;
 const LONG_RUNS: u64 = 3_000;
 
+const QUICK_LISTS: u64 = 700;
+const LONG_LISTS: u64 = 7_000;
+
 const USAGE: &str = "usage: compare quick | long [SEED] | cuts [long [SEED]] | verdicts PROGRAM [SEED] | \
-    list codec|slots|judge | bench";
+    rows PROGRAM [SEED] | list codec|slots|judge | bench";
 
 const BAD_SEED: &str = "SEED is a number, decimal or hex with 0x";
 
@@ -147,6 +152,11 @@ fn main() -> ExitCode {
         ["verdicts", program] => verdicts::run(program, QUICK_SEED, QUICK_RUNS),
         ["verdicts", program, seed] => match parse_seed(seed) {
             Some(seed) => verdicts::run(program, seed, LONG_RUNS),
+            None => fail(BAD_SEED),
+        },
+        ["rows", program] => rows::run(program, QUICK_SEED, QUICK_LISTS),
+        ["rows", program, seed] => match parse_seed(seed) {
+            Some(seed) => rows::run(program, seed, LONG_LISTS),
             None => fail(BAD_SEED),
         },
         ["list", "codec"] => list::print(list_codec::fill),

@@ -4,12 +4,10 @@ use crate::counts::{Answer, Counts, Function};
 use crate::frames::{packed, row_of, Cut, Pair, Store, FRAME, HALF};
 use crate::judge_reference::{judge, Judged, BAD_FRAMES, NO_PAIR, VERDICT};
 use crate::part::{Checked, Report, Run};
+use crate::program::output;
 use crate::rng::Rng;
 use crate::value::hex;
-use std::io::{self, Write};
-use std::process::{Command, ExitCode, Output, Stdio};
-use std::thread::sleep;
-use std::time::Duration;
+use std::process::ExitCode;
 
 const VERDICTS: &str = "verdicts";
 
@@ -311,25 +309,4 @@ fn random_pieces(rng: &mut Rng, len: usize) -> Vec<usize> {
         pieces.sort_unstable();
     }
     pieces
-}
-
-const PAUSE: Duration = Duration::from_millis(5);
-
-fn output(program: &str, text: &[u8], pieces: &[usize]) -> io::Result<Output> {
-    let mut child =
-        Command::new(program).stdin(Stdio::piped()).stdout(Stdio::piped()).stderr(Stdio::inherit()).spawn()?;
-    if let Some(mut input) = child.stdin.take() {
-        let mut start = 0;
-        for end in pieces {
-            if start > 0 {
-                sleep(PAUSE);
-            }
-            // A program that has seen enough may end before it read everything.
-            if input.write_all(&text[start..*end]).is_err() {
-                break;
-            }
-            start = *end;
-        }
-    }
-    child.wait_with_output()
 }

@@ -92,7 +92,7 @@ length-read : (ps : List PairRead) → length (rowRead ps) ≡ length ps
 length-read [] = refl
 length-read (p ∷ ps) = simp (length-read ps)
 
-length-verdicts : (vs : List PairVerdict) → length (verdictBytes vs) ≡ length vs * verdictWidth
+pub length-verdicts : (vs : List PairVerdict) → length (verdictBytes vs) ≡ length vs * verdictWidth
 length-verdicts [] = refl
 length-verdicts (v ∷ vs) = simp (length-verdicts vs) (omega arith)
 

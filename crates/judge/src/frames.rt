@@ -140,7 +140,7 @@ fn in_range(frames: &[u8], n: usize) -> bool
 
 // ---- a verdict
 
-fn standing_number(s: Standing) -> u8
+pub fn standing_number(s: Standing) -> u8
     ensures { λ r. ⌜ r ≡ standingNumber s ⌝ }
 {
     match s {
@@ -160,7 +160,7 @@ fn slot_number(index: SlotIndex) -> u8
     }
 }
 
-fn winner_number(w: WinnerSlot) -> u8
+pub fn winner_number(w: WinnerSlot) -> u8
     ensures { λ r. ⌜ r ≡ winnerNumber w ⌝ }
 {
     match w {
@@ -169,7 +169,7 @@ fn winner_number(w: WinnerSlot) -> u8
     }
 }
 
-fn slot_verdict_number(v: SlotVerdict) -> u8
+pub fn slot_verdict_number(v: SlotVerdict) -> u8
     ensures { λ r. ⌜ r ≡ slotVerdictNumber v ⌝ }
 {
     match v {

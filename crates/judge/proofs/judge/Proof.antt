@@ -243,6 +243,7 @@ module _ {M : Type 1} (𝓤 : URA M) (H : Heap 𝓤) (A : Atoms 𝓤) (W : Given
     abbrev Kept : ℕ → GName → Fml
     Kept ν δ = LentAgain RV κ′ (ν ∷ []) q′ γ′ b′ o′ δ zs
 
+    -- What `sweep` asks.
     goes : (ν : ℕ) (δ : GName)
         → ent 𝓤 (⋆ 𝓤 H A (‵ (flft κ q) ∷ ‵ (flft (ν ∷ []) fullShare) ∷ ‵ OwnPairs ∷ ‵ (Lent (ν ∷ []) δ zs (length ys)) ∷ [])) (Asked ν δ)
     goes ν δ =
@@ -259,6 +260,7 @@ module _ {M : Type 1} (𝓤 : URA M) (H : Heap 𝓤) (A : Atoms 𝓤) (W : Given
     abbrev Lasts : Type 0
     Lasts = Unit {0} × (List PairVerdict × (Unit {0} × (Unit {0} × Unit {0})))
 
+    -- The call, from the rows as they stand to the rows as it leaves them.
     sweeps : (𝓣 : Tables 𝓤 H) → Triple 𝓤 (𝓣 .C #judge·sweep) (Sweep 𝓤 H A mem run)
         → {Γ : List (Item 𝓤)} {E : Env 𝓤 H} {xs : List Operand} {d : Place} {then : Body} {Q : KPost 𝓤 H}
         → ((ν : ℕ) (δ : GName)
@@ -266,6 +268,7 @@ module _ {M : Type 1} (𝓤 : URA M) (H : Heap 𝓤) (A : Atoms 𝓤) (W : Given
         → (Is RS s′ (sval s′ ∷ []) → length zs′ ≡ length ys → Sq W (Rows zs′ Γ) (lands (𝓣 .C) (𝓣 .Λ) E d (sval s′) then Q))
         → Sq W (Rows zs Γ) (runs (𝓣 .C) (𝓣 .Λ) E (seq (call #judge·sweep xs d) then) Q)
     sweeps 𝓣 known {Γ} {E} {xs} {d} {then} {Q} os k =
+        -- The pairs are handed over and kept; the verdicts are lent again.
         use1 W (‵ OwnPairs ⊛ ‵ OwnPairs) (shr-slice-copy 𝓤 H A W (named 0) κ RP .twice pairs-ref (pairs-val ∷ [])) $ split ! $ lft-new ! tt (λ ν.
         -- [ν's token; pairs; pairs; out; the token of pairs; the token of out; …]
         move ! (3 ∷ 5 ∷ []) $ rewrite ! 0 (λ (m : ℕ). ‵ (Lent κ′ γ′ zs m)) (sym (ready .long)) refl $
@@ -274,6 +277,7 @@ module _ {M : Type 1} (𝓤 : URA M) (H : Heap 𝓤) (A : Atoms 𝓤) (W : Given
         rewrite ! 0 (λ (m : ℕ). ‵ (Lent (ν ∷ []) δ zs m)) (ready .long) refl $
         -- [out, lent again; what its holder keeps; ν's token; pairs; pairs; the token of pairs; …]
         move ! (5 ∷ 2 ∷ 3 ∷ 0 ∷ []) $ group ! 4 $ use1 W (raw (Asked ν δ)) (goes ν δ) $
+        -- The call, and what it says.
         calls-at ! (fmOf 𝓤 H (W .laws) 𝓣) (Sweep 𝓤 H A mem run) known (to-sweep ν δ) (os ν δ) (λ u.
         use1 W (later (some (λ (z : Progress). ((‵ (flft κ q) ⊛ ‵ (flft (ν ∷ []) fullShare) ⊛ ‵ ftrue) ⊛ ‵ (RS .own z (u ∷ [])))
         ⊛ raw (ensured 𝓤 H A sweep.ended (sweep.clauses 𝓤 H A mem run) (κ, (ν ∷ [], tt)) (args δ) tt z)))) (id⊢ 𝓤 _) $ await ! tt $ pick ! (λ z.
@@ -284,6 +288,7 @@ module _ {M : Type 1} (𝓤 : URA M) (H : Heap 𝓤) (A : Atoms 𝓤) (W : Given
         -- [the last list; …; the tokens and the result; what the holder keeps; pairs; …]
         move ! (2 ∷ []) $ split ! $ move ! (1 ∷ []) $ rewrite ! 0 (λ (w : Progress). ‵ (RS .own w (u ∷ []))) (is .0) refl $
         peeks ! RS (Is RS) (shows 𝓤 H A RS) s′ (u ∷ []) (λ good. drop ! $
+        -- ν ends, and the verdicts come back.
         split ! $ move ! (1 ∷ []) $ split ! $ lft-end ! tt $ move ! (0 ∷ 5 ∷ 3 ∷ []) $
         use3 W (later (‵ (Lent κ′ γ′ (ws .1 .0) (length zs)) ⊛ ‵ (flft κ′ q′)))
         (comes-back RV κ′ (ν ∷ []) q′ γ′ b′ o′ 𝓤 H A W (named 1) (named 1) zs δ (ws .1 .0) (subst (Room RV) (sym (ready .long)) gv) same) $
@@ -291,6 +296,7 @@ module _ {M : Type 1} (𝓤 : URA M) (H : Heap 𝓤) (A : Atoms 𝓤) (W : Given
         rewrite ! 0 (λ (m : ℕ). ‵ (Lent κ′ γ′ (ws .1 .0) m)) (ready .long) refl $ rewrite ! 0 (λ (l : List PairVerdict). ‵ (OwnOut l)) (is .1) refl $
         -- [out; the token of out; true; the token of pairs; …; pairs; …]
         move ! (2 ∷ []) $ drop ! $ move ! (3 ∷ []) $ drop ! $ move ! (3 ∷ 0 ∷ 2 ∷ 1 ∷ []) $
+        -- The answer is the value that its type says.
         subst (λ (us : List Val). Sq W (Rows zs′ Γ) (lands (𝓣 .C) (𝓣 .Λ) E d (only us) then Q)) (sym (progress W .tells s′ (u ∷ []) good))
         (k (subst (Is RS s′) (progress W .tells s′ (u ∷ []) good) good) (sym (ap length (is .1)) ∙ same ∙ ready .long))))))))))
 
