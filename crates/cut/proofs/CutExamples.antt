@@ -30,7 +30,7 @@ use Rattle.frame.specs.declared.frame.SlotPart.{SlotPart}
 use Rattle.verdict.specs.Numbers.{slots, highest}
 use Rattle.judge.specs.Frames.{verdictWidth}
 use Rattle.region.specs.Block.{clamp, blockSize, entriesPerPage}
-use Rattle.volume.specs.Base.{baseCheck, decodeBase, baseBytes}
+use Rattle.volume_base.specs.Base.{baseCheck, decodeBase, baseBytes}
 use Rattle.volume.specs.Volume.{tailCheck, decodeVolume, tailBytes, volumeBytes}
 use Rattle.page.specs.Read.{decodePage}
 use Rattle.page.specs.Write.{headerBytes as pageHeaderBytes}

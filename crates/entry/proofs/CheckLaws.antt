@@ -1,32 +1,20 @@
--- Laws of an entry's checks: the tests they are made of, a check in a row of checks, and what is known of an entry that passed.
+-- Laws of an entry's checks: a check in a row of checks, and what is known of an entry that passed.
 use mathlib.Core.Path.{_≡_, refl, sym, ap, _∙_}
-use mathlib.Core.Bool.{Bool, true, false, cond}
-use Prim.Native.Nat.{ℕ, _^_, _≤_, _<_}
-use native.Mathlib.Omega.{arith}
-use borrow.Author.Tests.{eq-eqb, ne-eqb, lt-ltb, le-ltb, le-leb, lt-leb, ltb-false, eqb-true}
-use lib.Dec.{ltb, eqb}
-use Rattle.codec.specs.Outcome.{Outcome, given, refusal, andThen}
-use Rattle.region.specs.Block.{blockSize}
+use Prim.Native.Nat.{ℕ, _^_}
+use Rattle.codec.specs.Outcome.{Outcome, given, andThen}
 use Rattle.region.specs.Error.{checkOutcome}
-use Rattle.region.specs.Kind.{kindNumber, kindOf, stateOf}
+use Rattle.region.specs.Kind.{kindNumber, kindOf}
 use Rattle.region.specs.declared.meta.Check.{Check}
 use Rattle.region.specs.declared.meta.MetaError.{MetaError}
 use Rattle.region.specs.declared.meta.RegionKind.{RegionKind}
-use Rattle.region.specs.declared.meta.RegionState.{RegionState}
-use Rattle.region.proofs.BlockLaws.{block-low}
+use Rattle.region.proofs.KindLaws.{kind-number}
+use Rattle.region.proofs.OutcomeLaws.{then-given}
+use Rattle.entry_check.specs.Check.{knownCheck, stateCheck, spanCheck, headerCheck, footprintCheck, contentCheck, sizesCheck}
+use Rattle.entry_check.proofs.CheckLaws.{state-passed}
 use Rattle.entry.specs.declared.meta2.RawEntry.{RawEntry}
 use Rattle.entry.specs.declared.meta2.Entry2.{Entry2}
 use Rattle.entry.specs.declared.meta2.EntryLimits.{EntryLimits}
-use Rattle.entry.specs.Check.{knownCheck, stateCheck, spanCheck, headerCheck, footprintCheck, contentCheck, sizesCheck, fieldsCheck, entry2, accepted}
-
--- What a row of tests is rewritten by: each test's value from what its branch knows.
-pub ruleset tests = (eq-eqb, ne-eqb, lt-ltb, le-ltb, le-leb, lt-leb)
-
--- A test that was passed, where failing it is refused.
-passed : {A : Type 0} (fails : Bool) (number : ℕ) {rest : Outcome A} {value : A} → cond fails (refusal number) rest ≡ given value
-    → (fails ≡ false) × (rest ≡ given value)
-passed true number is = let never : _≡_ {A = ℕ} 0 1 = cc in absurd (omega arith)
-passed false number is = (refl, is)
+use Rattle.entry.specs.Check.{fieldsCheck, entry2, accepted}
 
 -- ---- a check in a row of checks
 
@@ -41,84 +29,6 @@ module _ {r : Check} {check : Outcome (Unit {0})} (says : checkOutcome r ≡ che
   pub fails : {whole : Outcome (Unit {0})} {error : MetaError} (left : Outcome (Unit {0})) → r ≡ Check.Fail error → whole ≡ andThen check (λ _. left)
       → checkOutcome r ≡ whole
   fails left is reached = ap checkOutcome is ∙ sym (reached ∙ answered left is)
-
--- What is given in the end was given by the first, and by what comes next.
-pub record Then {A B : Type 0} (first : Outcome A) (next : A → Outcome B) (end : B) : Type 0 where
-  pub value : A
-  pub first-is : first ≡ given value
-  pub next-is : next value ≡ given end
-
-pub then-given : {A B : Type 0} (first : Outcome A) (next : A → Outcome B) {end : B} → andThen first next ≡ given end → Then first next end
-then-given (given value) next is = record { value = value; first-is = refl; next-is = is }
-then-given (refusal number) next is = let never : _≡_ {A = ℕ} 0 1 = cc in absurd (omega arith)
-
--- ---- states and kinds
-
--- Ready passes; every other state, and every number that is none, is 34.
-abbrev pub ready : Outcome RegionState → Outcome (Unit {0})
-ready (given RegionState.Ready) = given tt
-ready (given RegionState.Released) = refusal 34
-ready (refusal number) = refusal 34
-
-pub state-ready : (v : ℕ) → ready (stateOf v) ≡ stateCheck v
-unfolding stateOf stateCheck
-state-ready v = go (eqb v 1) (eqb v 2)
-  where
-    go : (one two : Bool)
-        → _≡_ {A = Outcome (Unit {0})} (ready (cond one (given RegionState.Ready) (cond two (given RegionState.Released) (refusal 34)))) (cond one (given tt) (refusal 34))
-    go true two = refl
-    go false true = refl
-    go false false = refl
-
-pub state-passed : (v : ℕ) → stateCheck v ≡ given tt → v ≡ 1
-unfolding stateCheck
-state-passed v is = go (eqb v 1) refl is
-  where
-    go : (one : Bool) → eqb v 1 ≡ one → _≡_ {A = Outcome (Unit {0})} (cond one (given tt) (refusal 34)) (given tt) → v ≡ 1
-    go true test is = eqb-true v 1 test
-    go false test is = let never : _≡_ {A = ℕ} 0 1 = cc in absurd (omega arith)
-
-abbrev kinds : Bool → Bool → Bool → Outcome RegionKind
-kinds one two three = cond one (given RegionKind.Append) (cond two (given RegionKind.Page) (cond three (given RegionKind.Slot) (refusal 33)))
-
--- A number that is no kind is 33.
-pub kind-refused : (v : ℕ) {number : ℕ} → kindOf v ≡ refusal number → kindOf v ≡ refusal 33
-unfolding kindOf
-kind-refused v {number} is = go (eqb v 1) (eqb v 2) (eqb v 3) is
-  where
-    go : (one two three : Bool) → kinds one two three ≡ refusal number → kinds one two three ≡ refusal 33
-    go true two three is = let never : _≡_ {A = ℕ} 0 1 = cc in absurd (omega arith)
-    go false true three is = let never : _≡_ {A = ℕ} 0 1 = cc in absurd (omega arith)
-    go false false true is = let never : _≡_ {A = ℕ} 0 1 = cc in absurd (omega arith)
-    go false false false is = refl
-
--- A kind that was read has the number it was read from.
-pub kind-number : (v : ℕ) {kind : RegionKind} → kindOf v ≡ given kind → kindNumber kind ≡ v
-unfolding kindOf
-kind-number v {kind} is = go (eqb v 1) refl (eqb v 2) refl (eqb v 3) refl is
-  where
-    go : (one : Bool) → eqb v 1 ≡ one → (two : Bool) → eqb v 2 ≡ two → (three : Bool) → eqb v 3 ≡ three → kinds one two three ≡ given kind
-        → kindNumber kind ≡ v
-    go true is-one two is-two three is-three is =
-        let append : kind ≡ RegionKind.Append = cc in ap kindNumber append ∙ sym (eqb-true v 1 is-one)
-    go false is-one true is-two three is-three is =
-        let page : kind ≡ RegionKind.Page = cc in ap kindNumber page ∙ sym (eqb-true v 2 is-two)
-    go false is-one false is-two true is-three is =
-        let slot : kind ≡ RegionKind.Slot = cc in ap kindNumber slot ∙ sym (eqb-true v 3 is-three)
-    go false is-one false is-two false is-three is = let never : _≡_ {A = ℕ} 0 1 = cc in absurd (omega arith)
-
--- ---- the block
-
-pub known-log2 : (flags log2 : ℕ) → knownCheck flags log2 ≡ given tt → (12 ≤ log2) × (log2 ≤ 16)
-unfolding knownCheck
-known-log2 flags log2 is =
-    let known = passed (ltb 3 flags) 21 is in
-    let low = passed (ltb log2 12) 32 (known .1) in
-    let high = passed (ltb 16 log2) 32 (low .1) in
-    (ltb-false _ _ (low .0), ltb-false _ _ (high .0))
-
-pub block-positive : (log2 : ℕ) {block : ℕ} → block ≡ blockSize log2 → 0 < block
-block-positive log2 is = omega (arith, block-low log2)
 
 -- ---- what is left of the definition behind each check
 

@@ -11,8 +11,15 @@ use Rattle.region.specs.Kind.{kindNumber, kindOf}
 use Rattle.region.specs.declared.meta.RegionKind.{RegionKind}
 use Rattle.name.specs.Name.{noName, paddedCheck, paddedName}
 use Rattle.name.specs.declared.meta.RegionName.{RegionName}
+use Rattle.entry_check.specs.Reserved.{widenedSpan}
+use Rattle.entry_check.specs.declared.meta2.ReservedSpan.{ReservedSpan}
 use Rattle.entry.specs.declared.meta2.RawEntry.{RawEntry}
+use Rattle.entry.specs.declared.meta2.EntryFront.{EntryFront}
+use Rattle.entry.specs.declared.meta2.EntryFrontRead.{EntryFrontRead}
+use Rattle.entry.specs.declared.meta2.EntryPlaces.{EntryPlaces}
+use Rattle.entry.specs.declared.meta2.EntryPlacesRead.{EntryPlacesRead}
 use Rattle.entry.specs.declared.meta2.Entry2.{Entry2}
+use Rattle.entry.specs.declared.meta2.EntryLimits.{EntryLimits}
 use Rattle.entry.specs.declared.meta2.FoundKind.{FoundKind}
 
 abbrev pub rawEntry : List ℕ → RawEntry
@@ -35,6 +42,40 @@ rawEntry s =
       «span_end» = le64 s 80;
       «footprint_seq» = le64 s 88;
     }
+
+-- The same by its parts: the numbers in front of the places, and the places.
+abbrev pub rawFront : List ℕ → EntryFront
+rawFront s =
+    record {
+      seq = le32 s 0;
+      kind = getD s 4 0;
+      state = getD s 5 0;
+      flags = getD s 6 0;
+      «compat_flags» = getD s 7 0;
+      tag = le32 s 32;
+      «extent_count» = le16 s 36;
+      reserved = le16 s 38;
+    }
+
+abbrev pub frontOutcome : EntryFrontRead → Outcome EntryFront
+frontOutcome (EntryFrontRead.Fields front) = given front
+frontOutcome EntryFrontRead.Truncated = refusal 11
+
+abbrev pub rawPlaces : List ℕ → EntryPlaces
+rawPlaces s =
+    record {
+      «header_a» = le64 s 40;
+      «header_b» = le64 s 48;
+      «data_size» = le64 s 56;
+      capacity = le64 s 64;
+      «span_start» = le64 s 72;
+      «span_end» = le64 s 80;
+      «footprint_seq» = le64 s 88;
+    }
+
+abbrev pub placesOutcome : EntryPlacesRead → Outcome EntryPlaces
+placesOutcome (EntryPlacesRead.Fields places) = given places
+placesOutcome EntryPlacesRead.Truncated = refusal 11
 
 -- The entry of zeros that goes with a refusal.
 unfoldable pub noEntry : RawEntry
@@ -65,9 +106,9 @@ entryRead s = cond (leb 96 (length s)) (given tt) (refusal 11)
 unfoldable pub rawEntryOr : List ℕ → RawEntry
 rawEntryOr s = cond (leb 96 (length s)) (rawEntry s) noEntry
 
--- The entry as it is written, zeros at 38.
-unfoldable pub entryBytes : RawEntry → List ℕ
-entryBytes e =
+-- Bytes 0 to 40 as they are written, zeros at 38.
+unfoldable pub frontBytes : RawEntry → List ℕ
+frontBytes e =
     bytes32 (e .seq)
     ++ bytes 1 (e .kind)
     ++ bytes 1 (e .state)
@@ -77,13 +118,21 @@ entryBytes e =
     ++ bytes32 (e .tag)
     ++ bytes16 (e .«extent_count»)
     ++ bytes16 0
-    ++ bytes64 (e .«header_a»)
+
+-- Bytes 40 to 96.
+unfoldable pub placesBytes : RawEntry → List ℕ
+placesBytes e =
+    bytes64 (e .«header_a»)
     ++ bytes64 (e .«header_b»)
     ++ bytes64 (e .«data_size»)
     ++ bytes64 (e .capacity)
     ++ bytes64 (e .«span_start»)
     ++ bytes64 (e .«span_end»)
     ++ bytes64 (e .«footprint_seq»)
+
+-- The entry as it is written.
+unfoldable pub entryBytes : RawEntry → List ℕ
+entryBytes e = frontBytes e ++ placesBytes e
 
 -- The two lookups: a name that decodes, and a name and a kind that both do.
 unfoldable pub foundName : List ℕ → Bool
@@ -98,6 +147,10 @@ foundKind e = kindFound (andThen (paddedCheck (e .name)) (λ _. kindOf (e .kind)
 
 unfoldable pub foundKindName : RawEntry → RegionName
 foundKindName e = cond (isGiven (kindOf (e .kind))) (paddedName (e .name)) noName
+
+-- What an entry keeps reserved although it fails its checks.
+abbrev pub reservedSpan : RawEntry → EntryLimits → ReservedSpan
+reservedSpan e l = widenedSpan (e .«span_start») (e .«span_end») (l .«log2_block») (l .«table_end») (l .«file_len»)
 
 -- An accepted entry as stored, its state Ready.
 unfoldable pub toRaw : Entry2 → RegionName → RawEntry

@@ -26,24 +26,28 @@ use codec::codec::ReadU64;
 use codec::codec::Reader;
 use codec::codec::Writer;
 use codec::codec::Written;
+use entry_check::meta2::ReservedSpan;
+use entry_check::meta2::check_content;
+use entry_check::meta2::check_footprint;
+use entry_check::meta2::check_header;
+use entry_check::meta2::check_known;
+use entry_check::meta2::check_sizes;
+use entry_check::meta2::check_span;
+use entry_check::meta2::check_state;
+use entry_check::meta2::widened_span;
 use name::meta::RegionName;
 use region::meta::Check;
 use region::meta::KindRead;
 use region::meta::MetaEncoded;
 use region::meta::MetaError;
 use region::meta::RegionKind;
-use region::meta::RegionState;
-use region::meta::StateRead;
-use region::meta2::block_size;
 ghost use mathlib.Core.Path.{_≡_};
-ghost use Prim.Native.Nat.{_%_, _-_, _≤_, _<_};
 ghost use lib.ListN.{length};
 ghost use Rattle.codec.specs.Bytes.{putWhole};
-ghost use Rattle.region.specs.Error.{checkOutcome, encodedOutcome, fitted};
+ghost use Rattle.region.specs.Error.{checkOutcome, encodedOutcome, fitted, held};
 ghost use Rattle.name.specs.Name.{paddedName};
-ghost use Rattle.entry.specs.Entry.{noEntry, entryRead, rawEntryOr, entryBytes, foundName, foundKind, foundKindName, toRaw};
-ghost use Rattle.entry.specs.Check.{knownCheck, stateCheck, spanCheck, headerCheck, footprintCheck, contentCheck, sizesCheck, fieldsCheck, accepted, entryOutcome, checkEntry, checkedName};
-ghost use Rattle.entry.specs.Reserved.{larger, smaller, wholeUp, reservedSpan};
+ghost use Rattle.entry.specs.Entry.{rawFront, frontOutcome, rawPlaces, placesOutcome, noEntry, entryRead, rawEntryOr, frontBytes, placesBytes, entryBytes, foundName, foundKind, foundKindName, reservedSpan, toRaw};
+ghost use Rattle.entry.specs.Check.{fieldsCheck, accepted, entryOutcome, checkEntry, checkedName};
 
 // One table entry as stored: every field, before the per-entry checks (an entry that fails them makes its region unavailable, and its
 // span is still needed, so the raw fields are always available).
@@ -80,6 +84,39 @@ pub struct RawEntry {
     pub span_end: u64,
     // `meta_seq` of the page write that last changed the footprint.
     pub footprint_seq: u64,
+}
+
+// The numbers of an entry in front of its places.
+pub struct EntryFront {
+    pub seq: u32,
+    pub kind: u8,
+    pub state: u8,
+    pub flags: u8,
+    pub compat_flags: u8,
+    pub tag: u32,
+    pub extent_count: u16,
+    pub reserved: u16,
+}
+
+pub enum EntryFrontRead {
+    Fields(EntryFront),
+    Truncated,
+}
+
+// Where an entry's parts lie, from 40 on.
+pub struct EntryPlaces {
+    pub header_a: u64,
+    pub header_b: u64,
+    pub data_size: u64,
+    pub capacity: u64,
+    pub span_start: u64,
+    pub span_end: u64,
+    pub footprint_seq: u64,
+}
+
+pub enum EntryPlacesRead {
+    Fields(EntryPlaces),
+    Truncated,
 }
 
 // An enum can hold no array: the entry stands beside the answer, zeros at a refusal.
@@ -147,89 +184,43 @@ pub struct EntryLimits {
     pub page_meta_seq: u64,
 }
 
-// The bytes that an entry keeps reserved, if any: start and end.
-pub enum ReservedSpan {
-    Span(u64, u64),
-    Nothing,
-}
-
 impl RawEntry {
     // The entry in the first 96 bytes.
     pub fn read(bytes: &[u8]) -> RawEntryRead
         ensures { λ r. ⌜ checkOutcome (r .answer) ≡ entryRead (now (bytes .entry)) ⌝ }
         ensures { λ r. ⌜ r .entry ≡ rawEntryOr (now (bytes .entry)) ⌝ }
     {
-        let r = Reader::new();
-        let ReadU32::Value(seq, r) = r.u32(bytes) else {
+        let EntryFrontRead::Fields(front) = read_front(bytes) else {
             return truncated();
         };
-        let ReadU8::Value(kind, r) = r.u8(bytes) else {
-            return truncated();
-        };
-        let ReadU8::Value(state, r) = r.u8(bytes) else {
-            return truncated();
-        };
-        let ReadU8::Value(flags, r) = r.u8(bytes) else {
-            return truncated();
-        };
-        let ReadU8::Value(compat_flags, r) = r.u8(bytes) else {
-            return truncated();
-        };
-        let name_read = r.array24(bytes);
+        let name_read = Reader { pos: 8 }.array24(bytes);
         let name_answer = name_read.answer;
-        let ReadBytes::At(_, r) = name_answer else {
+        let ReadBytes::At(_, _) = name_answer else {
+            return truncated();
+        };
+        let EntryPlacesRead::Fields(places) = read_places(bytes) else {
             return truncated();
         };
         let name = name_read.bytes;
-        let ReadU32::Value(tag, r) = r.u32(bytes) else {
-            return truncated();
-        };
-        let ReadU16::Value(extent_count, r) = r.u16(bytes) else {
-            return truncated();
-        };
-        let ReadU16::Value(reserved, r) = r.u16(bytes) else {
-            return truncated();
-        };
-        let ReadU64::Value(header_a, r) = r.u64(bytes) else {
-            return truncated();
-        };
-        let ReadU64::Value(header_b, r) = r.u64(bytes) else {
-            return truncated();
-        };
-        let ReadU64::Value(data_size, r) = r.u64(bytes) else {
-            return truncated();
-        };
-        let ReadU64::Value(capacity, r) = r.u64(bytes) else {
-            return truncated();
-        };
-        let ReadU64::Value(span_start, r) = r.u64(bytes) else {
-            return truncated();
-        };
-        let ReadU64::Value(span_end, r) = r.u64(bytes) else {
-            return truncated();
-        };
-        let ReadU64::Value(footprint_seq, _) = r.u64(bytes) else {
-            return truncated();
-        };
         RawEntryRead {
             answer: Check::Pass,
             entry: RawEntry {
-                seq,
-                kind,
-                state,
-                flags,
-                compat_flags,
+                seq: front.seq,
+                kind: front.kind,
+                state: front.state,
+                flags: front.flags,
+                compat_flags: front.compat_flags,
                 name,
-                tag,
-                extent_count,
-                reserved,
-                header_a,
-                header_b,
-                data_size,
-                capacity,
-                span_start,
-                span_end,
-                footprint_seq,
+                tag: front.tag,
+                extent_count: front.extent_count,
+                reserved: front.reserved,
+                header_a: places.header_a,
+                header_b: places.header_b,
+                data_size: places.data_size,
+                capacity: places.capacity,
+                span_start: places.span_start,
+                span_end: places.span_end,
+                footprint_seq: places.footprint_seq,
             },
         }
     }
@@ -242,7 +233,8 @@ impl RawEntry {
         if out.len() < 96 {
             return MetaEncoded::Refused(MetaError::Length);
         }
-        write_fields(&mut out[..96], self);
+        write_front(&mut out[..40], self);
+        write_places(&mut out[40..96], self);
         MetaEncoded::Length(96)
     }
 
@@ -314,13 +306,13 @@ impl RawEntry {
     pub fn reserved_span(self, lim: EntryLimits) -> ReservedSpan
         ensures { λ r. ⌜ r ≡ reservedSpan self lim ⌝ }
     {
-        let block = block_size(lim.log2_block);
-        let start = larger(whole_down(self.span_start, block), lim.table_end);
-        let end = smaller(whole_up(self.span_end, block), lim.file_len);
-        if start < end {
-            return ReservedSpan::Span(start, end);
-        }
-        ReservedSpan::Nothing
+        widened_span(
+            self.span_start,
+            self.span_end,
+            lim.log2_block,
+            lim.table_end,
+            lim.file_len,
+        )
     }
 }
 
@@ -380,10 +372,89 @@ fn truncated() -> RawEntryRead
     }
 }
 
-// Writes every field, in the order of the layout.
-fn write_fields(out: &mut [u8], e: RawEntry)
-    requires { ⌜ length (now out) ≡ 96 ⌝ }
-    ensures { λ _. ⌜ now (out .exit) ≡ entryBytes e ⌝ }
+// The numbers in front of the places. The name stands between them, at 8.
+fn read_front(bytes: &[u8]) -> EntryFrontRead
+    ensures { λ r. ⌜ frontOutcome r ≡ held 40 (now (bytes .entry)) (rawFront (now (bytes .entry))) ⌝ }
+{
+    let r = Reader::new();
+    let ReadU32::Value(seq, r) = r.u32(bytes) else {
+        return EntryFrontRead::Truncated;
+    };
+    let ReadU8::Value(kind, r) = r.u8(bytes) else {
+        return EntryFrontRead::Truncated;
+    };
+    let ReadU8::Value(state, r) = r.u8(bytes) else {
+        return EntryFrontRead::Truncated;
+    };
+    let ReadU8::Value(flags, r) = r.u8(bytes) else {
+        return EntryFrontRead::Truncated;
+    };
+    let ReadU8::Value(compat_flags, _) = r.u8(bytes) else {
+        return EntryFrontRead::Truncated;
+    };
+    let r = Reader { pos: 32 };
+    let ReadU32::Value(tag, r) = r.u32(bytes) else {
+        return EntryFrontRead::Truncated;
+    };
+    let ReadU16::Value(extent_count, r) = r.u16(bytes) else {
+        return EntryFrontRead::Truncated;
+    };
+    let ReadU16::Value(reserved, _) = r.u16(bytes) else {
+        return EntryFrontRead::Truncated;
+    };
+    EntryFrontRead::Fields(EntryFront {
+        seq,
+        kind,
+        state,
+        flags,
+        compat_flags,
+        tag,
+        extent_count,
+        reserved,
+    })
+}
+
+// The places, from 40 on.
+fn read_places(bytes: &[u8]) -> EntryPlacesRead
+    ensures { λ r. ⌜ placesOutcome r ≡ held 96 (now (bytes .entry)) (rawPlaces (now (bytes .entry))) ⌝ }
+{
+    let r = Reader { pos: 40 };
+    let ReadU64::Value(header_a, r) = r.u64(bytes) else {
+        return EntryPlacesRead::Truncated;
+    };
+    let ReadU64::Value(header_b, r) = r.u64(bytes) else {
+        return EntryPlacesRead::Truncated;
+    };
+    let ReadU64::Value(data_size, r) = r.u64(bytes) else {
+        return EntryPlacesRead::Truncated;
+    };
+    let ReadU64::Value(capacity, r) = r.u64(bytes) else {
+        return EntryPlacesRead::Truncated;
+    };
+    let ReadU64::Value(span_start, r) = r.u64(bytes) else {
+        return EntryPlacesRead::Truncated;
+    };
+    let ReadU64::Value(span_end, r) = r.u64(bytes) else {
+        return EntryPlacesRead::Truncated;
+    };
+    let ReadU64::Value(footprint_seq, _) = r.u64(bytes) else {
+        return EntryPlacesRead::Truncated;
+    };
+    EntryPlacesRead::Fields(EntryPlaces {
+        header_a,
+        header_b,
+        data_size,
+        capacity,
+        span_start,
+        span_end,
+        footprint_seq,
+    })
+}
+
+// Writes the fields in front of the places, in the order of the layout.
+fn write_front(out: &mut [u8], e: RawEntry)
+    requires { ⌜ length (now out) ≡ 40 ⌝ }
+    ensures { λ _. ⌜ now (out .exit) ≡ frontBytes e ⌝ }
 {
     let name = e.name;
     let w = Writer::new();
@@ -411,9 +482,17 @@ fn write_fields(out: &mut [u8], e: RawEntry)
     let Written::Next(w) = w.u16(out, e.extent_count) else {
         return;
     };
-    let Written::Next(w) = w.u16(out, 0) else {
+    let Written::Next(_) = w.u16(out, 0) else {
         return;
     };
+}
+
+// Writes the places, in the order of the layout.
+fn write_places(out: &mut [u8], e: RawEntry)
+    requires { ⌜ length (now out) ≡ 56 ⌝ }
+    ensures { λ _. ⌜ now (out .exit) ≡ placesBytes e ⌝ }
+{
+    let w = Writer::new();
     let Written::Next(w) = w.u64(out, e.header_a) else {
         return;
     };
@@ -455,23 +534,34 @@ fn check_fields(e: RawEntry, name: Check, lim: EntryLimits) -> Check
     let Check::Pass = name else {
         return name;
     };
-    let block = block_size(lim.log2_block);
     let span = check_span(
         e.data_size,
         e.capacity,
         e.span_start,
         e.span_end,
         lim.file_len,
-        block,
+        lim.log2_block,
     );
     let Check::Pass = span else {
         return span;
     };
-    let a = check_header(e.header_a, lim.table_end, e.span_start, e.span_end, block);
+    let a = check_header(
+        e.header_a,
+        lim.table_end,
+        e.span_start,
+        e.span_end,
+        lim.log2_block,
+    );
     let Check::Pass = a else {
         return a;
     };
-    let b = check_header(e.header_b, lim.table_end, e.span_start, e.span_end, block);
+    let b = check_header(
+        e.header_b,
+        lim.table_end,
+        e.span_start,
+        e.span_end,
+        lim.log2_block,
+    );
     let Check::Pass = b else {
         return b;
     };
@@ -483,151 +573,7 @@ fn check_fields(e: RawEntry, name: Check, lim: EntryLimits) -> Check
     let Check::Pass = content else {
         return content;
     };
-    check_sizes(kind, e.capacity, e.data_size, block)
-}
-
-// Flags first, so that an entry from a newer release is recognised as such.
-fn check_known(flags: u8, log2_block: u8) -> Check
-    ensures { λ r. ⌜ checkOutcome r ≡ knownCheck flags «log2_block» ⌝ }
-{
-    if 3 < flags {
-        return Check::Fail(MetaError::Field(21));
-    }
-    if log2_block < 12 {
-        return Check::Fail(MetaError::Field(32));
-    }
-    if 16 < log2_block {
-        return Check::Fail(MetaError::Field(32));
-    }
-    Check::Pass
-}
-
-fn check_state(state: u8) -> Check
-    ensures { λ r. ⌜ checkOutcome r ≡ stateCheck state ⌝ }
-{
-    let StateRead::State(state) = RegionState::from_u8(state) else {
-        return Check::Fail(MetaError::Field(34));
-    };
-    let RegionState::Ready = state else {
-        return Check::Fail(MetaError::Field(34));
-    };
-    Check::Pass
-}
-
-// The extents lie in the span (checked with the header), so that their sum, the capacity, cannot exceed it.
-fn check_span(
-    data_size: u64,
-    capacity: u64,
-    start: u64,
-    end: u64,
-    file_len: u64,
-    block: u64,
-) -> Check
-    requires { ⌜ 0 < block ⌝ }
-    ensures { λ r. ⌜ checkOutcome r ≡ spanCheck «data_size» capacity start end «file_len» block ⌝ }
-{
-    if capacity < data_size {
-        return Check::Fail(MetaError::Field(36));
-    }
-    if end <= start {
-        return Check::Fail(MetaError::Field(37));
-    }
-    if file_len < end {
-        return Check::Fail(MetaError::Field(37));
-    }
-    if end - start < capacity {
-        return Check::Fail(MetaError::Field(38));
-    }
-    if start % block != 0 {
-        return Check::Fail(MetaError::Unaligned);
-    }
-    if end % block != 0 {
-        return Check::Fail(MetaError::Unaligned);
-    }
-    Check::Pass
-}
-
-// A header's block lies in the span and behind the table.
-fn check_header(header: u64, table_end: u64, start: u64, end: u64, block: u64) -> Check
-    requires { ⌜ 0 < block ⌝ }
-    ensures { λ r. ⌜ checkOutcome r ≡ headerCheck header «table_end» start end block ⌝ }
-{
-    if header % block != 0 {
-        return Check::Fail(MetaError::Unaligned);
-    }
-    if header < table_end {
-        return Check::Fail(MetaError::Field(39));
-    }
-    if header < start {
-        return Check::Fail(MetaError::Field(39));
-    }
-    if end < header {
-        return Check::Fail(MetaError::Field(39));
-    }
-    if end - header < block {
-        return Check::Fail(MetaError::Field(39));
-    }
-    Check::Pass
-}
-
-fn check_footprint(header_a: u64, header_b: u64, footprint_seq: u64, page_meta_seq: u64) -> Check
-    ensures { λ r. ⌜ checkOutcome r ≡ footprintCheck «header_a» «header_b» «footprint_seq» «page_meta_seq» ⌝ }
-{
-    if header_a == header_b {
-        return Check::Fail(MetaError::Field(39));
-    }
-    if footprint_seq == 0 {
-        return Check::Fail(MetaError::Field(40));
-    }
-    if page_meta_seq < footprint_seq {
-        return Check::Fail(MetaError::Field(40));
-    }
-    Check::Pass
-}
-
-// A slot region has no data area, every other an extent and a capacity.
-fn check_content(kind: RegionKind, extent_count: u16, capacity: u64, data_size: u64) -> Check
-    ensures { λ r. ⌜ checkOutcome r ≡ contentCheck kind «extent_count» capacity «data_size» ⌝ }
-{
-    if kind.to_u8() == 3 {
-        if extent_count != 0 {
-            return Check::Fail(MetaError::Field(41));
-        }
-        if capacity != 0 {
-            return Check::Fail(MetaError::Field(41));
-        }
-        if data_size != 0 {
-            return Check::Fail(MetaError::Field(41));
-        }
-        return Check::Pass;
-    }
-    if extent_count == 0 {
-        return Check::Fail(MetaError::Field(42));
-    }
-    if capacity == 0 {
-        return Check::Fail(MetaError::Field(38));
-    }
-    Check::Pass
-}
-
-// Whole data blocks; of 512 bytes in an append region.
-fn check_sizes(kind: RegionKind, capacity: u64, data_size: u64, block: u64) -> Check
-    requires { ⌜ 0 < block ⌝ }
-    ensures { λ r. ⌜ checkOutcome r ≡ sizesCheck kind capacity «data_size» block ⌝ }
-{
-    if capacity % block != 0 {
-        return Check::Fail(MetaError::Unaligned);
-    }
-    if kind.to_u8() == 1 {
-        if data_size % 512 != 0 {
-            return Check::Fail(MetaError::Unaligned);
-        }
-        return Check::Pass;
-    }
-    if data_size % block != 0 {
-        return Check::Fail(MetaError::Unaligned);
-    }
-    Check::Pass
+    check_sizes(kind, e.capacity, e.data_size, lim.log2_block)
 }
 
 // The entry that is kept of one that passed.
@@ -652,46 +598,4 @@ fn accepted(e: RawEntry) -> Entry2Read
         span_end: e.span_end,
         footprint_seq: e.footprint_seq,
     })
-}
-
-fn larger(a: u64, b: u64) -> u64
-    ensures { λ r. ⌜ r ≡ larger a b ⌝ }
-{
-    if a < b {
-        return b;
-    }
-    a
-}
-
-fn smaller(a: u64, b: u64) -> u64
-    ensures { λ r. ⌜ r ≡ smaller a b ⌝ }
-{
-    if b < a {
-        return b;
-    }
-    a
-}
-
-// The end of the last whole block before `n`.
-fn whole_down(n: u64, block: u64) -> u64
-    requires { ⌜ 0 < block ⌝ }
-    ensures { λ r. ⌜ r ≡ n - n % block ⌝ }
-{
-    n - n % block
-}
-
-// The next multiple of `block`, or the highest number where there is none.
-fn whole_up(n: u64, block: u64) -> u64
-    requires { ⌜ 0 < block ⌝ }
-    ensures { λ r. ⌜ r ≡ wholeUp n block ⌝ }
-{
-    let rest = n % block;
-    if rest == 0 {
-        return n;
-    }
-    let more = block - rest;
-    if 0xFFFF_FFFF_FFFF_FFFF - n < more {
-        return 0xFFFF_FFFF_FFFF_FFFF;
-    }
-    n + more
 }

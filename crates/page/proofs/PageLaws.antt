@@ -12,17 +12,12 @@ use lib.Seq.{drop-at, take-all, take-add, getD-take, getD-drop, length-take-le}
 use Rattle.codec.specs.Bytes.{AllBytes, le, le16, le32, bytes, bytes16, put, allZero}
 use Rattle.codec.specs.Outcome.{Outcome, given, refusal, andThen}
 use Rattle.codec.proofs.CursorLaws.{le-same, le-bytes, length-bytes, put-before, put-behind, le-put, bytes-more, le-lt}
+use Rattle.region.proofs.OutcomeLaws.{passed}
 use Rattle.page.specs.Read.{header, seqs, contains, entryCheck, entriesCheck, page, decodePage}
 use Rattle.page.specs.Write.{headerBytes, storedEntry, storedEntries, pageBytes, encodePage, encodedPage, Issued, none, more, Fits, Acceptable}
 use Rattle.page.specs.declared.meta2.PageHeader.{PageHeader}
 use Rattle.page.specs.declared.meta2.Page.{Page}
 use Rattle.page.proofs.WriteLaws.{take-put, length-header, length-entry, length-entries, entry-zeros, entry-take}
-
--- A test that was passed.
-passed : {A : Type 0} (fails : Bool) (number : ℕ) {rest : Outcome A} {value : A} → cond fails (refusal number) rest ≡ given value
-    → (fails ≡ false) × (rest ≡ given value)
-passed true number is = let never : _≡_ {A = ℕ} 0 1 = cc in absurd (omega arith)
-passed false number is = (refl, is)
 
 -- ---- an entry as it is stored
 

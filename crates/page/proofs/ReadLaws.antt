@@ -4,16 +4,13 @@ use mathlib.Core.Bool.{Bool, true, false, cond}
 use mathlib.Core.List.{List}
 use Prim.Native.Nat.{ℕ, _≤_, _<_}
 use native.Mathlib.Omega.{arith}
-use borrow.Author.Tests.{eq-eqb, ne-eqb, lt-ltb, le-ltb, le-leb, lt-leb, leb-true, leb-false}
+use borrow.Author.Tests.{le-leb, lt-leb, leb-true, leb-false}
 use lib.Dec.{leb}
 use lib.ListN.{length}
 use Rattle.codec.specs.Bytes.{le16, le32}
 use Rattle.page.specs.Read.{header, headerRead}
 use Rattle.page.specs.declared.meta2.PageHeader.{PageHeader}
 use Rattle.page.specs.declared.meta2.HeaderRead.{HeaderRead}
-
--- What a row of tests is rewritten by: each test's value from what its branch knows.
-pub ruleset tests = (eq-eqb, ne-eqb, lt-ltb, le-ltb)
 
 -- Bytes that end before an end within the header.
 pub header-cut : (s : List ℕ) (end : ℕ) → length s < end → end ≤ 24 → headerRead s ≡ HeaderRead.Truncated

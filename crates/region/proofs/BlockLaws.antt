@@ -1,7 +1,7 @@
 -- Laws of block sizes: bounds, and what a log2 in range gives.
 use mathlib.Core.Path.{_≡_, refl, _∙_}
 use mathlib.Core.Bool.{Bool, true, false, cond}
-use Prim.Native.Nat.{ℕ, _*_, _%_, _^_, _≤_}
+use Prim.Native.Nat.{ℕ, _*_, _%_, _^_, _≤_, _<_}
 use native.Mathlib.Nat.{one-mul}
 use native.Mathlib.Omega.{arith}
 use borrow.Author.Tests.{le-ltb, ltb-true, ltb-false}
@@ -37,3 +37,6 @@ block-high log2 = pow-mono {i = clamp log2} {j = 16} (clamp-range log2 .1)
 pub block-power : (log2 : ℕ) → 12 ≤ log2 → log2 ≤ 16 → blockSize log2 ≡ 2 ^ log2
 unfolding blockSize clamp
 block-power log2 from to = simp (le-ltb _ _ from, le-ltb _ _ to)
+
+pub block-positive : (log2 : ℕ) {block : ℕ} → block ≡ blockSize log2 → 0 < block
+block-positive log2 is = omega (arith, block-low log2)

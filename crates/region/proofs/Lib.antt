@@ -1,2 +1,4 @@
 pub mod BlockLaws
+pub mod KindLaws
 pub mod FitLaws
+pub mod OutcomeLaws

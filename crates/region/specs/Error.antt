@@ -27,3 +27,7 @@ encodedOutcome (MetaEncoded.Refused error) = refusal (errorNumber error)
 -- A record of n bytes is written into a buffer: 11 for one that is too short.
 unfoldable pub fitted : ℕ → List ℕ → Outcome ℕ
 fitted n out = cond (leb n (length out)) (given n) (refusal 11)
+
+-- What n bytes hold: 11 for fewer.
+unfoldable pub held : {A : Type 0} → ℕ → List ℕ → A → Outcome A
+held n s value = cond (leb n (length s)) (given value) (refusal 11)

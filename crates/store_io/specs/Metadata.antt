@@ -7,7 +7,7 @@ use Rattle.region.specs.Kind.{kindNumber}
 use Rattle.winner.specs.Winner.{flag}
 use Rattle.name.specs.declared.meta.RegionName.{RegionName}
 use Rattle.name.specs.Name.{noName}
-use Rattle.volume.specs.declared.meta.VolumeMeta.{VolumeMeta}
+use Rattle.volume_base.specs.declared.meta.VolumeMeta.{VolumeMeta}
 use Rattle.volume.specs.declared.meta2.VolumeMeta2.{VolumeMeta2}
 use Rattle.page.specs.declared.meta2.PageHeader.{PageHeader}
 use Rattle.page.specs.declared.meta2.Page.{Page}
@@ -17,7 +17,7 @@ use Rattle.entry.specs.declared.meta2.RawEntry.{RawEntry}
 use Rattle.entry.specs.declared.meta2.Entry2.{Entry2}
 use Rattle.entry.specs.declared.meta2.EntryLimits.{EntryLimits}
 use Rattle.entry.specs.declared.meta2.FoundKind.{FoundKind}
-use Rattle.entry.specs.declared.meta2.ReservedSpan.{ReservedSpan}
+use Rattle.entry_check.specs.declared.meta2.ReservedSpan.{ReservedSpan}
 use Rattle.store_io.specs.Slots.{isYes}
 
 -- What stands in a lent place afterwards: the new value, or the old one at a refusal.

@@ -1,16 +1,16 @@
 // The volume record for C hosts.
 use region::meta::Check;
 use region::meta::MetaEncoded;
-use volume::meta::VolumeMeta;
-use volume::meta::VolumeMetaRead;
 use volume::meta2::TableEnd;
 use volume::meta2::VolumeMeta2;
 use volume::meta2::VolumeMeta2Read;
+use volume_base::meta::VolumeMeta;
+use volume_base::meta::VolumeMetaRead;
 ghost use mathlib.Core.Path.{_≡_};
 ghost use Rattle.codec.specs.Bytes.{putWhole};
 ghost use Rattle.region.specs.Block.{entriesPerPage};
 ghost use Rattle.region.specs.Error.{fitted};
-ghost use Rattle.volume.specs.Base.{decodeBase, baseBytes};
+ghost use Rattle.volume_base.specs.Base.{decodeBase, baseBytes};
 ghost use Rattle.volume.specs.Volume.{decodeVolume, volumeBytes, tableEnd, fileCheck};
 ghost use Rattle.store_io.specs.Host.{outcomeRefusal, outcomeOr};
 ghost use Rattle.store_io.specs.Slots.{isYes};

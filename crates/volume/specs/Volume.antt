@@ -10,8 +10,8 @@ use Rattle.codec.specs.Bytes.{le16, le32, le64, bytes, bytes16, bytes32}
 use Rattle.codec.specs.Outcome.{Outcome, given, refusal, andThen}
 use Rattle.region.specs.Error.{errorNumber}
 use Rattle.region.specs.Block.{entriesPerPage}
-use Rattle.volume.specs.Base.{decodeBase, baseBytes, AcceptableBase}
-use Rattle.volume.specs.declared.meta.VolumeMeta.{VolumeMeta}
+use Rattle.volume_base.specs.Base.{decodeBase, baseBytes, AcceptableBase}
+use Rattle.volume_base.specs.declared.meta.VolumeMeta.{VolumeMeta}
 use Rattle.volume.specs.declared.meta2.VolumeMeta2.{VolumeMeta2}
 use Rattle.volume.specs.declared.meta2.RawTail.{RawTail}
 use Rattle.volume.specs.declared.meta2.RawTailRead.{RawTailRead}

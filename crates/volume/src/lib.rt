@@ -1,3 +1,2 @@
-// Layer 3: the volume record.
-pub mod meta;
+// Layer 3: the volume record of format 2.
 pub mod meta2;

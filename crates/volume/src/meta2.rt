@@ -9,8 +9,6 @@
 // | 55 | 1 | | zero |
 // | 56 | 4 | flags | none defined |
 // | 60 | 4 | | zero |
-use crate::meta::VolumeMeta;
-use crate::meta::VolumeMetaRead;
 use codec::codec::ReadU8;
 use codec::codec::ReadU16;
 use codec::codec::ReadU32;
@@ -23,6 +21,8 @@ use region::meta::MetaEncoded;
 use region::meta::MetaError;
 use region::meta2::block_size;
 use region::meta2::entries_per_page;
+use volume_base::meta::VolumeMeta;
+use volume_base::meta::VolumeMetaRead;
 ghost use mathlib.Core.Path.{_≡_};
 ghost use mathlib.Core.Bool.{cond};
 ghost use Prim.Native.Nat.{_≤_};

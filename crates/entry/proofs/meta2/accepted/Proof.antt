@@ -1,7 +1,7 @@
 -- `accepted` meets its contract: the kind is read again, and the other fields are kept.
 use mathlib.Core.Path.{sym, ap, _∙_}
 use Rattle.region.specs.Kind.{kindOutcome}
-use Rattle.entry.proofs.CheckLaws.{kind-refused}
+use Rattle.region.proofs.KindLaws.{kind-refused}
 use Rattle.entry.specs.Check.{accepted}
 use borrow.Author.Needs.{needs}
 use Rattle.entry.proofs.meta2.accepted.Statement.{statement}

@@ -1,13 +1,16 @@
 -- `check_fields` meets its contract: a check that passes leaves the checks behind it, and one that fails is the answer of the whole. The
 -- block is the power of two of the definition, since the log2 has passed before it is used.
 use mathlib.Core.Path.{_≡_, refl, sym, ap, _∙_}
-use Prim.Native.Nat.{ℕ, _^_, _≤_, _<_}
+use Prim.Native.Nat.{ℕ, _^_, _≤_}
 use Rattle.codec.specs.Outcome.{Outcome, andThen}
+use Rattle.region.specs.Block.{blockSize}
 use Rattle.region.specs.Error.{checkOutcome}
 use Rattle.region.specs.Kind.{kindOf, kindOutcome}
 use Rattle.region.specs.declared.meta.RegionKind.{RegionKind}
 use Rattle.region.proofs.BlockLaws.{block-power}
-use Rattle.entry.proofs.CheckLaws.{kind-refused, known-log2, block-positive, passes, fails, from-sizes, from-content, from-footprint, from-header-b, from-header-a, from-span, from-name, from-state, from-kind, fields-row}
+use Rattle.region.proofs.KindLaws.{kind-refused}
+use Rattle.entry_check.proofs.CheckLaws.{known-log2}
+use Rattle.entry.proofs.CheckLaws.{passes, fails, from-sizes, from-content, from-footprint, from-header-b, from-header-a, from-span, from-name, from-state, from-kind, fields-row}
 use Rattle.entry.specs.declared.meta2.RawEntry.{RawEntry}
 use Rattle.entry.specs.declared.meta2.EntryLimits.{EntryLimits}
 use Rattle.entry.specs.Check.{fieldsCheck}
@@ -60,47 +63,44 @@ past-name c = passes refl (c .enum-told6 .given .1) (past-state (c .before .befo
 
 -- ---- what is left where a check has passed: from the span on, by the block
 
-abbrev Left : (RawEntry → EntryLimits → RegionKind → ℕ → Outcome (Unit {0})) → tie.After-block-size → Type 0
-Left from c = let k = c .before .before .before .before .before .before in let s = at-state k in whole s ≡ from (e s) (l s) (kind k) (c .block-size .result)
+abbrev Left : (RawEntry → EntryLimits → RegionKind → ℕ → Outcome (Unit {0})) → tie.After-enum-told6 → Type 0
+Left from c = let k = c .before .before .before .before .before in let s = at-state k in whole s ≡ from (e s) (l s) (kind k) (blockSize (l s .«log2_block»))
 
-positive : (c : tie.After-block-size) → 0 < c .block-size .result
-positive c = block-positive _ (c .block-size .ensures)
-
-with-block : (c : tie.After-block-size) → Left from-span c
+with-block : (c : tie.After-enum-told6) → Left from-span c
 with-block c =
-    let k = c .before .before .before .before .before .before in
+    let k = c .before .before .before .before .before in
     let s = at-state k in
     let range = log2-range (k .before .before .before .before) in
-    past-name (c .before) ∙ ap (from-span (e s) (l s) (kind k)) (sym (c .block-size .ensures ∙ block-power _ (range .0) (range .1)))
+    past-name c ∙ ap (from-span (e s) (l s) (kind k)) (sym (block-power _ (range .0) (range .1)))
 
-abbrev block-a : tie.After-enum-told8 → tie.After-block-size
-block-a c = c .before .before .before
+abbrev named-a : tie.After-enum-told8 → tie.After-enum-told6
+named-a c = c .before .before .before
 
-past-span : (c : tie.After-enum-told8) → Left from-header-a (block-a c)
+past-span : (c : tie.After-enum-told8) → Left from-header-a (named-a c)
 past-span c = passes (c .before .before .check-span .ensures) (c .enum-told8 .given .1) (with-block (c .before .before .before))
 
-abbrev block-b : tie.After-enum-told10 → tie.After-block-size
-block-b c = block-a (c .before .before .before)
+abbrev named-b : tie.After-enum-told10 → tie.After-enum-told6
+named-b c = named-a (c .before .before .before)
 
-past-header-a : (c : tie.After-enum-told10) → Left from-header-b (block-b c)
+past-header-a : (c : tie.After-enum-told10) → Left from-header-b (named-b c)
 past-header-a c = passes (c .before .before .check-header .ensures) (c .enum-told10 .given .1) (past-span (c .before .before .before))
 
-abbrev block-footprint : tie.After-enum-told12 → tie.After-block-size
-block-footprint c = block-b (c .before .before .before)
+abbrev named-footprint : tie.After-enum-told12 → tie.After-enum-told6
+named-footprint c = named-b (c .before .before .before)
 
-past-header-b : (c : tie.After-enum-told12) → Left from-footprint (block-footprint c)
+past-header-b : (c : tie.After-enum-told12) → Left from-footprint (named-footprint c)
 past-header-b c = passes (c .before .before .check-header2 .ensures) (c .enum-told12 .given .1) (past-header-a (c .before .before .before))
 
-abbrev block-content : tie.After-enum-told14 → tie.After-block-size
-block-content c = block-footprint (c .before .before .before)
+abbrev named-content : tie.After-enum-told14 → tie.After-enum-told6
+named-content c = named-footprint (c .before .before .before)
 
-past-footprint : (c : tie.After-enum-told14) → Left from-content (block-content c)
+past-footprint : (c : tie.After-enum-told14) → Left from-content (named-content c)
 past-footprint c = passes (c .before .before .check-footprint .ensures) (c .enum-told14 .given .1) (past-header-b (c .before .before .before))
 
-abbrev block-sizes : tie.After-enum-told16 → tie.After-block-size
-block-sizes c = block-content (c .before .before .before)
+abbrev named-sizes : tie.After-enum-told16 → tie.After-enum-told6
+named-sizes c = named-content (c .before .before .before)
 
-past-content : (c : tie.After-enum-told16) → Left from-sizes (block-sizes c)
+past-content : (c : tie.After-enum-told16) → Left from-sizes (named-sizes c)
 past-content c = passes (c .before .before .check-content .ensures) (c .enum-told16 .given .1) (past-footprint (c .before .before .before))
 
 check-known-requires : tie.Need-check-known-requires
@@ -150,11 +150,8 @@ enum-told-7 c = search needs
 returns-4 : tie.Need-returns-4
 returns-4 c = fails refl _ (c .enum-told7 .given .1) (past-state (c .before .before))
 
-block-size-requires : tie.Need-block-size-requires
-block-size-requires c κs = search needs
-
 check-span-requires : tie.Need-check-span-requires
-check-span-requires c κs = positive c
+check-span-requires c κs = search needs
 
 enum-told-8 : tie.Need-enum-told-8
 enum-told-8 c = search needs
@@ -166,7 +163,7 @@ returns-5 : tie.Need-returns-5
 returns-5 c = fails (c .before .before .check-span .ensures) _ (c .enum-told9 .given .1) (with-block (c .before .before .before))
 
 check-header-requires : tie.Need-check-header-requires
-check-header-requires c κs = positive (block-a c)
+check-header-requires c κs = search needs
 
 enum-told-10 : tie.Need-enum-told-10
 enum-told-10 c = search needs
@@ -178,7 +175,7 @@ returns-6 : tie.Need-returns-6
 returns-6 c = fails (c .before .before .check-header .ensures) _ (c .enum-told11 .given .1) (past-span (c .before .before .before))
 
 check-header-requires-2 : tie.Need-check-header-requires-2
-check-header-requires-2 c κs = positive (block-b c)
+check-header-requires-2 c κs = search needs
 
 enum-told-12 : tie.Need-enum-told-12
 enum-told-12 c = search needs
@@ -214,7 +211,7 @@ returns-9 : tie.Need-returns-9
 returns-9 c = fails (c .before .before .check-content .ensures) _ (c .enum-told17 .given .1) (past-footprint (c .before .before .before))
 
 check-sizes-requires : tie.Need-check-sizes-requires
-check-sizes-requires c κs = positive (block-sizes c)
+check-sizes-requires c κs = search needs
 
 returns-10 : tie.Need-returns-10
 returns-10 c = c .check-sizes .ensures ∙ sym (past-content (c .before))
@@ -238,7 +235,6 @@ check-fields-spec =
     enum-told-6
     enum-told-7
     returns-4
-    block-size-requires
     check-span-requires
     enum-told-8
     enum-told-9

@@ -10,9 +10,10 @@ use Rattle.codec.proofs.CursorLaws.{part-rest}
 use Rattle.codec.specs.Bytes.{le16, le32, allZero}
 use Rattle.codec.specs.Outcome.{given, andThen}
 use Rattle.region.specs.Error.{checkOutcome}
+use Rattle.region.proofs.OutcomeLaws.{tests}
 use Rattle.page.specs.Read.{header, page, decodePage}
 use Rattle.page.specs.declared.meta2.PageHeader.{PageHeader}
-use Rattle.page.proofs.ReadLaws.{tests, header-is, header-none}
+use Rattle.page.proofs.ReadLaws.{header-is, header-none}
 use borrow.Author.Needs.{needs}
 use Rattle.page.proofs.meta2.decode_page.Statement.{statement}
 use Rattle.page.proofs.meta2.decode_page.Tie as tie

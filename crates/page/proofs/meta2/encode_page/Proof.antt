@@ -8,8 +8,8 @@ use lib.ListN.{length, take, drop}
 use lib.Seq.{length-take-le}
 use Rattle.codec.specs.Bytes.{put}
 use Rattle.codec.specs.Outcome.{given, refusal}
+use Rattle.region.proofs.OutcomeLaws.{tests}
 use Rattle.page.specs.Write.{headerBytes, encodePage, encodedPage}
-use Rattle.page.proofs.ReadLaws.{tests}
 use Rattle.page.proofs.WriteLaws.{part-put, prefix-put, length-header, length-entries, buffer-kept, buffer-written}
 use borrow.Author.Needs.{needs}
 use Rattle.page.proofs.meta2.encode_page.Statement.{statement}

@@ -1,7 +1,7 @@
 -- `sio_reserved_span` hands over the span that is reserved.
 use mathlib.Core.Path.{sym, ap, _∙_}
 use Rattle.region.specs.Error.{checkOutcome}
-use Rattle.entry.specs.Reserved.{reservedSpan}
+use Rattle.entry.specs.Entry.{reservedSpan}
 use Rattle.entry.specs.declared.meta2.RawEntry.{RawEntry}
 use Rattle.store_io.specs.Host.{outcomeRefusal}
 use Rattle.store_io.specs.Metadata.{replaced, limitsOf, spanValues}

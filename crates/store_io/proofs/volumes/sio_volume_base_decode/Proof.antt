@@ -1,6 +1,6 @@
 -- `sio_volume_base_decode` hands over what is decoded.
 use mathlib.Core.Path.{sym, ap, _∙_}
-use Rattle.volume.specs.Base.{baseOutcome}
+use Rattle.volume_base.specs.Base.{baseOutcome}
 use Rattle.store_io.specs.Host.{outcomeRefusal}
 use Rattle.store_io.specs.Metadata.{valuesOr, baseValues}
 use borrow.Author.Needs.{needs}

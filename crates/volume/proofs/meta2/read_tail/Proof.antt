@@ -7,7 +7,8 @@ use lib.Dec.{lit≤}
 use Rattle.codec.specs.Bytes.{le}
 use Rattle.codec.specs.Cursor.{u8Answer, u16Answer, u32Answer}
 use Rattle.codec.proofs.CursorLaws.{le-byte, answer-done, answer-refused}
-use Rattle.volume.proofs.DecodeLaws.{Done, tail-cut, tail-there}
+use Rattle.region.proofs.FitLaws.{Done}
+use Rattle.volume.proofs.DecodeLaws.{tail-cut, tail-there}
 use borrow.Author.Needs.{needs}
 use Rattle.volume.proofs.meta2.read_tail.Statement.{statement}
 use Rattle.volume.proofs.meta2.read_tail.Tie as tie

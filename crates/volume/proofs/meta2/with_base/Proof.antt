@@ -4,8 +4,8 @@ use Prim.Native.Nat.{_*_, _^_}
 use native.Mathlib.Omega.{arith}
 use Rattle.region.specs.Block.{entriesPerPage}
 use Rattle.region.proofs.BlockLaws.{block-high, block-power}
+use Rattle.region.proofs.OutcomeLaws.{tests}
 use Rattle.volume.specs.Volume.{tailCheck}
-use Rattle.volume.proofs.DecodeLaws.{tests}
 use borrow.Author.Needs.{needs}
 use Rattle.volume.proofs.meta2.with_base.Statement.{statement}
 use Rattle.volume.proofs.meta2.with_base.Tie as tie

@@ -9,10 +9,11 @@ use lib.ListN.{length, take, drop}
 use lib.Seq.{length-take-le}
 use Rattle.codec.proofs.CursorLaws.{put-whole, put-all}
 use Rattle.region.specs.Error.{encodedOutcome}
-use Rattle.volume.specs.Base.{baseBytes}
+use Rattle.volume_base.specs.Base.{baseBytes}
+use Rattle.volume_base.proofs.BaseLaws.{length-base}
 use Rattle.volume.specs.Volume.{tailBytes, volumeBytes}
-use Rattle.region.proofs.FitLaws.{too-short, put-front, has-room}
-use Rattle.volume.proofs.EncodeLaws.{length-base, length-volume, two-parts}
+use Rattle.region.proofs.FitLaws.{too-short, put-front, has-room, two-parts}
+use Rattle.volume.proofs.VolumeLaws.{length-volume}
 use borrow.Author.Needs.{needs}
 use Rattle.volume.proofs.meta2.VolumeMeta2.encode.Statement.{statement}
 use Rattle.volume.proofs.meta2.VolumeMeta2.encode.Tie as tie
@@ -89,7 +90,7 @@ returns-3 c =
     let written = put-front 64 (old called) _ (length-volume self) (room called) in (
       written .0,
       ap₂ (λ (b t : List ℕ). putMid 48 16 (b ++ drop 48 (old called)) t) (base-is called) (c .before .before .write-tail .ensures)
-          ∙ two-parts (old called) (baseBytes (self .base)) (tailBytes self) (length-base (self .base))
+          ∙ two-parts 48 16 (old called) (baseBytes (self .base)) (tailBytes self) (length-base (self .base))
           ∙ written .1,
     )
 

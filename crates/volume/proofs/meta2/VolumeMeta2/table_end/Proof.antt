@@ -5,9 +5,9 @@ use Prim.Native.Nat.{ℕ, _*_, _^_, _≤_}
 use native.Mathlib.Nat.{mul-le-mul}
 use native.Mathlib.Omega.{arith}
 use Rattle.region.proofs.BlockLaws.{block-high, block-power}
+use Rattle.region.proofs.OutcomeLaws.{tests}
 use Rattle.volume.specs.Volume.{tableEnd}
 use Rattle.volume.specs.declared.meta2.VolumeMeta2.{VolumeMeta2}
-use Rattle.volume.proofs.DecodeLaws.{tests}
 use borrow.Author.Needs.{needs}
 use Rattle.volume.proofs.meta2.VolumeMeta2.table_end.Statement.{statement}
 use Rattle.volume.proofs.meta2.VolumeMeta2.table_end.Tie as tie
