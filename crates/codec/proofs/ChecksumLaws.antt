@@ -59,10 +59,6 @@ pub crc-from-zero : (bs : List ℕ) → crc32cAppend 0 bs ≡ crc32c bs
 unfolding crc32c crc32cAppend
 crc-from-zero bs = refl
 
-pub crc-none : crc32c [] ≡ 0
-unfolding crc32c digest finalRemainder remainder reversed
-crc-none = refl
-
 pub append-none : (crc : ℕ) (bs : List ℕ) → crc < 2 ^ 32 → length bs ≡ 0 → crc32cAppend crc bs ≡ crc
 unfolding after
 append-none crc [] fits none =
@@ -81,10 +77,6 @@ append-append crc xs bs =
 
 pub crc-append : (xs bs : List ℕ) → crc32cAppend (crc32c xs) bs ≡ crc32c (xs ++ bs)
 crc-append xs bs = ap (λ (crc : ℕ). crc32cAppend crc bs) (sym (crc-from-zero xs)) ∙ append-append 0 xs bs ∙ crc-from-zero (xs ++ bs)
-
-pub append-lt : (crc : ℕ) (bs : List ℕ) → crc32cAppend crc bs < 2 ^ 32
-unfolding crc32cAppend digest
-append-lt crc bs = reversed-lt 32 _
 
 pub crc-lt : (bs : List ℕ) → crc32c bs < 2 ^ 32
 unfolding crc32c digest

@@ -12,7 +12,7 @@ use Rattle.codec.specs.Crc32c.{crc32c}
 use Rattle.codec.proofs.CursorLaws.{le-lt}
 use Rattle.slot.specs.Status.{indexNumber}
 use Rattle.slot.specs.Read.{magic}
-use Rattle.slot.specs.Write.{headerBytes, headerCrc, writtenHeader, slotBytes}
+use Rattle.slot.specs.Write.{frontBytes, identityBytes, historyBytes, headerBytes, headerCrc, writtenHeader, slotBytes}
 use Rattle.slot.specs.declared.slot.SlotFields.{SlotFields}
 use Rattle.cut.specs.Store.{Every, Bytes}
 
@@ -64,23 +64,41 @@ le-fits w {s} all i = le-lt w s i (byte-fits all)
 
 -- ---- what `encode` writes
 
-header-bytes : (crc : ℕ) (f : SlotFields) (len payloadCrc : ℕ) → Bytes (f .«volume_uuid») → Bytes (headerBytes crc f len payloadCrc)
-unfolding headerBytes
-header-bytes crc f len payloadCrc volume =
+front-bytes : (crc : ℕ) (f : SlotFields) (payloadCrc : ℕ) → Bytes (frontBytes crc f payloadCrc)
+unfolding frontBytes
+front-bytes crc f payloadCrc =
     append-bytes
-    (append-bytes (append-bytes (append-bytes (append-bytes (append-bytes (append-bytes (append-bytes (append-bytes (append-bytes
     (append-bytes
-    (append-bytes
-    (append-bytes (append-bytes (append-bytes (append-bytes (append-bytes (append-bytes (append-bytes (append-bytes (append-bytes
+    (append-bytes (append-bytes (append-bytes (append-bytes (append-bytes
     (bytes-tested magic refl)
     (number-bytes 4 crc)) (number-bytes 2 128)) (number-bytes 2 (f .«format_major»))) (number-bytes 4 0)) (number-bytes 4 0))
-    (number-bytes 4 (f .«compat_flags»))) (number-bytes 4 payloadCrc)) volume) (number-bytes 8 (f .«object_id»)))
+    (number-bytes 4 (f .«compat_flags»))) (number-bytes 4 payloadCrc)
+
+identity-bytes : (f : SlotFields) (len : ℕ) → Bytes (f .«volume_uuid») → Bytes (identityBytes f len)
+unfolding identityBytes
+identity-bytes f len volume =
+    append-bytes
+    (append-bytes
+    (append-bytes (append-bytes (append-bytes (append-bytes (append-bytes (append-bytes
+    volume (number-bytes 8 (f .«object_id»)))
     (number-bytes 8 (f .generation)))
     (number-bytes 8 (f .«slot_offset»)))
     (number-bytes 4 len)) (number-bytes 1 (indexNumber (f .«slot_index»)))) (number-bytes 1 2))
-    (number-bytes 1 (f .«log2_slot_size»))) (number-bytes 1 0)) (number-bytes 4 (f .«prev_header_crc32c»)))
-    (number-bytes 4 0)) (number-bytes 8 (f .«owner_generation»))) (number-bytes 8 (f .«meta_seq»)))
+    (number-bytes 1 (f .«log2_slot_size»))) (number-bytes 1 0)
+
+history-bytes : (f : SlotFields) → Bytes (historyBytes f)
+unfolding historyBytes
+history-bytes f =
+    append-bytes
+    (append-bytes
+    (append-bytes (append-bytes (number-bytes 4 (f .«prev_header_crc32c»)) (number-bytes 4 0)) (number-bytes 8 (f .«owner_generation»)))
+    (number-bytes 8 (f .«meta_seq»)))
     (zero-bytes 24)
+
+header-bytes : (crc : ℕ) (f : SlotFields) (len payloadCrc : ℕ) → Bytes (f .«volume_uuid») → Bytes (headerBytes crc f len payloadCrc)
+unfolding headerBytes
+header-bytes crc f len payloadCrc volume =
+    append-bytes (append-bytes (front-bytes crc f payloadCrc) (identity-bytes f len volume)) (history-bytes f)
 
 pub slot-bytes : (f : SlotFields) (payload : List ℕ) → Bytes (f .«volume_uuid») → Bytes payload → Bytes (slotBytes f payload)
 unfolding slotBytes writtenHeader

@@ -16,7 +16,7 @@ use Rattle.codec.specs.Crc32c.{crc32c, finalRemainder, remainder, digest, rever
 use Rattle.codec.proofs.RunLaws.{same-true}
 use Rattle.slot.specs.Status.{indexNumber, other}
 use Rattle.slot.specs.Read.{headerSum, lengthOk, numberOk, payload as payloadOf, validate}
-use Rattle.slot.specs.Write.{headerBytes, headerCrc, writtenHeader, slotBytes, encodeRefusal, encodedBytes}
+use Rattle.slot.specs.Write.{frontBytes, identityBytes, historyBytes, headerBytes, headerCrc, writtenHeader, slotBytes, encodeRefusal, encodedBytes}
 use Rattle.slot.specs.declared.slot.SlotIndex.{SlotIndex}
 use Rattle.slot.specs.declared.slot.SlotFields.{SlotFields}
 use Rattle.slot.specs.declared.slot.SlotInfo.{SlotInfo}
@@ -220,11 +220,11 @@ secondPage = record { a = writtenSlot secondFields (pageRecord 1 0); b = blankSl
 
 -- The checksums of the first page's headers and payloads.
 older-sums : (headerCrc olderFields (pageRecord 0 1) ≡ 0x588e_9174) × (crc32c (pageRecord 0 1) ≡ 0xb3b8_1b53)
-unfolding headerCrc headerBytes pageHeaderBytes bytes crc32c finalRemainder remainder digest reversed
+unfolding headerCrc headerBytes frontBytes identityBytes historyBytes pageHeaderBytes bytes crc32c finalRemainder remainder digest reversed
 older-sums = (refl, refl)
 
 pub newer-sum : headerCrc newerFields (pageRecord 0 2) ≡ 0xe83c_e718
-unfolding headerCrc headerBytes pageHeaderBytes bytes crc32c finalRemainder remainder digest reversed
+unfolding headerCrc headerBytes frontBytes identityBytes historyBytes pageHeaderBytes bytes crc32c finalRemainder remainder digest reversed
 newer-sum = refl
 
 -- `encode` refuses none of the slots.
@@ -449,7 +449,7 @@ page-correct =
     (rw page-length (lit≤ tt))
 
 new-sums : (headerCrc newFields (pageRecord 0 0x304) ≡ 0xd61e_00d0) × (crc32c (pageRecord 0 0x304) ≡ 0x9755_91c2)
-unfolding headerCrc headerBytes pageHeaderBytes bytes crc32c finalRemainder remainder digest reversed
+unfolding headerCrc headerBytes frontBytes identityBytes historyBytes pageHeaderBytes bytes crc32c finalRemainder remainder digest reversed
 new-sums = (refl, refl)
 
 new-refusal : encodeRefusal newFields (pageRecord 0 0x304) 512 ≡ 0
@@ -474,7 +474,7 @@ page-survived k tests = survived (pageWrite k) sound unmarked (page-correct k) r
 -- After 8 bytes the header is the old one; after 11 and 64 it is neither and fails; after 127 it is the new one, since its last byte is
 -- zero; after 133 the payload is neither and fails; after 134 it is the new one, since zeros follow.
 pub page-cuts : Every (λ (k : ℕ). Survives (pageWrite k) (replicate 12 0)) (0 ∷ 8 ∷ 11 ∷ 64 ∷ 127 ∷ 128 ∷ 133 ∷ 134 ∷ 512 ∷ [])
-unfolding cut headerPasses headerSum headerBytes pageHeaderBytes bytes le crc32c finalRemainder remainder digest reversed
+unfolding cut headerPasses headerSum headerBytes frontBytes identityBytes historyBytes pageHeaderBytes bytes le crc32c finalRemainder remainder digest reversed
 page-cuts =
     Every.more (page-survived 0 refl)
     (Every.more (page-survived 8 refl)
@@ -485,7 +485,7 @@ page-cuts =
     (Every.more (page-survived 133 refl) (Every.more (page-survived 134 refl) (Every.more (page-survived 512 refl) Every.none))))))))
 
 pub page-whole : (whole (pageWrite 133) ≡ false) × (whole (pageWrite 134) ≡ true)
-unfolding standsWhole cut headerBytes pageHeaderBytes bytes
+unfolding standsWhole cut headerBytes frontBytes identityBytes historyBytes pageHeaderBytes bytes
 page-whole = (whole-at 133, whole-at 134)
   where
     whole-at : (k : ℕ) → whole (pageWrite k) ≡ standsWhole (cut k newPage oldPage) newPage (pageRecord 0 0x304)
@@ -505,7 +505,7 @@ unfolding volumeBytes baseBytes tailBytes bytes
 volume-length = refl
 
 pub volume-sum : headerCrc volumeFields (volumeRecord false) ≡ 0x1d15_7c74
-unfolding headerCrc headerBytes volumeBytes baseBytes tailBytes bytes crc32c finalRemainder remainder digest reversed
+unfolding headerCrc headerBytes frontBytes identityBytes historyBytes volumeBytes baseBytes tailBytes bytes crc32c finalRemainder remainder digest reversed
 volume-sum = refl
 
 volume-correct : (k : ℕ) → CorrectWrite (volumeWrite k)
@@ -518,7 +518,7 @@ volume-correct =
     (rw volume-length (lit≤ tt))
 
 marked-sums : (headerCrc markedFields (volumeRecord true) ≡ 0x880c_0bb0) × (crc32c (volumeRecord true) ≡ 0xa2bd_3d49)
-unfolding headerCrc headerBytes volumeBytes baseBytes tailBytes bytes crc32c finalRemainder remainder digest reversed
+unfolding headerCrc headerBytes frontBytes identityBytes historyBytes volumeBytes baseBytes tailBytes bytes crc32c finalRemainder remainder digest reversed
 marked-sums = (refl, refl)
 
 marked-refusal : encodeRefusal markedFields (volumeRecord true) 512 ≡ 0
@@ -540,7 +540,7 @@ volume-survived k tests =
 
 -- After 8 and 11 bytes the header's length is still zero; after 128 the payload is what stood there before.
 pub volume-cuts : Every (λ (k : ℕ). Survives (volumeWrite k) (replicate 12 0)) (0 ∷ 8 ∷ 11 ∷ 64 ∷ 128 ∷ 191 ∷ 192 ∷ [])
-unfolding cut headerPasses headerSum headerBytes volumeBytes baseBytes tailBytes bytes le crc32c finalRemainder remainder digest reversed
+unfolding cut headerPasses headerSum headerBytes frontBytes identityBytes historyBytes volumeBytes baseBytes tailBytes bytes le crc32c finalRemainder remainder digest reversed
 volume-cuts =
     Every.more (volume-survived 0 refl)
     (Every.more (volume-survived 8 refl)
@@ -555,5 +555,5 @@ unfolding handed
 volume-handed k = rw new-volume
 
 pub volume-marks : (handed (volumeWrite 191) ≡ false) × (handed (volumeWrite 192) ≡ true)
-unfolding standsWhole cut headerBytes volumeBytes baseBytes tailBytes bytes
+unfolding standsWhole cut headerBytes frontBytes identityBytes historyBytes volumeBytes baseBytes tailBytes bytes
 volume-marks = (volume-handed 191, volume-handed 192 ∙ volume-accepted .3)

@@ -137,7 +137,7 @@ length-parts : (ps : List Pair) → length (parts ps) ≡ length ps
 length-parts [] = refl
 length-parts (p ∷ ps) = ap suc (length-parts ps)
 
-not-refused : (n : ℕ) → 1 ≤ n → refusedRow n n ≡ 0
+pub not-refused : (n : ℕ) → 1 ≤ n → refusedRow n n ≡ 0
 unfolding refusedRow
 not-refused n some = let full : (n ≡ 0 → ⊥) = omega arith in simp (ne-eqb n 0 full, eq-eqb n n refl)
 

@@ -3,8 +3,6 @@ use mathlib.Core.Path.{_≡_, refl, sym, ap, ap₂, fun-ext, _∙_}
 use mathlib.Core.Bool.{Bool, true, false, cond}
 use mathlib.Core.List.{List, [], _∷_, _++_}
 use Prim.Native.Nat.{ℕ, zero, suc, _+_, _*_, _≤_, max}
-use native.Mathlib.Omega.{arith}
-use borrow.Author.Tests.{eq-eqb, ne-eqb}
 use lib.Dec.{eqb}
 use lib.ListN.{length, take, drop}
 use Rattle.slot.specs.Status.{code, validInfo}
@@ -17,15 +15,15 @@ use Rattle.frame.specs.declared.frame.SlotPart.{SlotPart}
 use Rattle.verdict.specs.Pairs.{numbered, badPayload, badHeader, oppositeSlot, unsupported, pairCase, hasCandidate}
 use Rattle.verdict.specs.Numbers.{slots, number, highest, highestOther, qualifies}
 use Rattle.verdict.specs.Verdict.{byIndex, pairVerdict}
-use Rattle.verdict.specs.Judge.{verdictsFrom, firstVerdicts, volumeVerdict, anyCandidate, pageCandidate, firstTally, rowRules, verdicts, judgeRow}
+use Rattle.verdict.specs.Judge.{verdictsFrom, firstVerdicts, anyCandidate, pageCandidate, firstTally, rowRules, verdicts, judgeRow}
 use Rattle.verdict.specs.declared.pairs.PairPart.{PairPart}
 use Rattle.verdict.specs.declared.pairs.PairCase.{PairCase}
 use Rattle.verdict.specs.declared.pairs.MetaSeq.{MetaSeq}
 use Rattle.verdict.specs.declared.verdict.PairVerdict.{PairVerdict}
 use Rattle.judge.specs.Row.{partRead, rowRead, refusedRow, rowJudged, rowVerdicts}
-use Rattle.judge.specs.declared.PairRead.{PairRead}
 use Rattle.judge.specs.declared.frames.Judged.{Judged}
 use Rattle.cut.specs.Store.{Slot, Pair, status, filled, slotPart, pairPart, parts, slotRead, reads}
+use Rattle.cut.proofs.FrameLaws.{not-refused}
 
 -- ---- a slot
 
@@ -189,10 +187,7 @@ length-reads (p ∷ ps) = ap suc (length-reads ps)
 
 module _ (ps : List Pair) (some : 1 ≤ length ps) (clean : Bool) where
   none-refused : (room : ℕ) → room ≡ length ps → refusedRow (length (reads ps)) room ≡ 0
-  unfolding refusedRow
-  none-refused room is =
-      let full : (length (reads ps) ≡ 0 → ⊥) = λ none. omega (arith, sym (length-reads ps) ∙ none) in
-      simp (ne-eqb _ _ full, eq-eqb _ _ (is ∙ sym (length-reads ps)))
+  none-refused room is = ap₂ refusedRow (length-reads ps) is ∙ not-refused (length ps) some
 
   pub row-judged : rowJudged (reads ps) clean (length ps) ≡ Judged.Done (judgeRow (parts ps) clean)
   unfolding rowJudged

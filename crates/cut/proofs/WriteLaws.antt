@@ -21,7 +21,8 @@ use Rattle.slot.specs.declared.slot.SlotStatus.{SlotStatus}
 use Rattle.slot.specs.declared.slot.SlotFields.{SlotFields}
 use Rattle.slot.specs.declared.slot.Expect.{Expect}
 use Rattle.slot.proofs.ReadLaws.{length-log2}
-use Rattle.encode.proofs.EncodeLaws.{Fits, Proper, expectOf, length-header, slot-parts, length-slot, magic-read}
+use Rattle.slot.proofs.WriteLaws.{length-header}
+use Rattle.encode.proofs.EncodeLaws.{Fits, Proper, expectOf, slot-parts, length-slot, magic-read}
 use Rattle.encode.proofs.RoundTrip.{written}
 use Rattle.pair.specs.declared.pair.WinnerInfo.{WinnerInfo}
 use Rattle.cut.specs.Store.{Bytes, Pair, accepts, slotAt, status, lastRecord, SoundSlot, Beside, SoundPair}

@@ -8,7 +8,7 @@ use lib.ListN.{replicate}
 use Rattle.codec.specs.Bytes.{le, bytes}
 use Rattle.codec.specs.Crc32c.{crc32c, finalRemainder, remainder, digest, reversed}
 use Rattle.slot.specs.Read.{lengthOk, headerSum, integrity, numberOk, shape, place, check, parseHeader, payloadStart, payloadLength, payload as payloadOf, payloadOk}
-use Rattle.slot.specs.Write.{headerBytes, headerCrc, encodedBytes}
+use Rattle.slot.specs.Write.{frontBytes, identityBytes, historyBytes, headerBytes, headerCrc, encodedBytes}
 use Rattle.slot.specs.declared.slot.SlotIndex.{SlotIndex}
 use Rattle.slot.specs.declared.slot.SlotStatus.{SlotStatus}
 use Rattle.slot.specs.declared.slot.HeaderFacts.{HeaderFacts}
@@ -108,7 +108,7 @@ unfolding volumeBytes baseBytes tailBytes pageHeaderBytes bytes crc32c finalRema
 payload-sums = (refl, refl, refl)
 
 second-sum : headerCrc secondFields (pageRecord 1 0) ≡ 0x2c8c_2a3c
-unfolding headerCrc headerBytes pageHeaderBytes bytes crc32c finalRemainder remainder digest reversed
+unfolding headerCrc headerBytes frontBytes identityBytes historyBytes pageHeaderBytes bytes crc32c finalRemainder remainder digest reversed
 second-sum = refl
 
 volume-slot : encodedBytes volumeFields (volumeRecord false) (replicate 512 0) ≡ volumeSlot
@@ -124,26 +124,26 @@ second-slot = summed-is 2 SlotIndex.A 1 0 3 (pageRecord 1 0) 0x2c8c_2a3c 0x3eb4_
 slots-read : (readOnce volumeSlot (volumePair .a .expect) ≡ volumeRead) × (readOnce blankBytes (volumePair .b .expect) ≡ blankRead)
     × (readOnce oldPage (firstPage .a .expect) ≡ olderRead) × (readOnce newerSlot (firstPage .b .expect) ≡ newerRead)
     × (readOnce secondSlot (secondPage .a .expect) ≡ secondRead) × (readOnce blankBytes (secondPage .b .expect) ≡ blankRead)
-unfolding lengthOk parseHeader check integrity shape place numberOk payloadOk payloadOf payloadStart payloadLength headerSum headerBytes volumeBytes baseBytes tailBytes pageHeaderBytes bytes le crc32c finalRemainder remainder digest reversed
+unfolding lengthOk parseHeader check integrity shape place numberOk payloadOk payloadOf payloadStart payloadLength headerSum headerBytes frontBytes identityBytes historyBytes volumeBytes baseBytes tailBytes pageHeaderBytes bytes le crc32c finalRemainder remainder digest reversed
 slots-read = (refl, refl, refl, refl, refl, refl)
 
 -- The pairs of them, with their records.
 volume-pair : PairRecord volumePair (record { a = volumeRead; b = blankRead }) (volumeRecord false)
-unfolding decide payloadOf payloadStart payloadLength headerBytes volumeBytes baseBytes tailBytes bytes
+unfolding decide payloadOf payloadStart payloadLength headerBytes frontBytes identityBytes historyBytes volumeBytes baseBytes tailBytes bytes
 volume-pair =
     rw volume-slot
     (pair-record volumeSlot blankBytes (volumePair .a .expect) (volumePair .b .expect) Volume (record { a = volumeRead; b = blankRead })
     (volumeRecord false) (slots-read .0) (slots-read .1) refl (volume-accepted .0))
 
 first-page : PairRecord firstPage (record { a = olderRead; b = newerRead }) (pageRecord 0 2)
-unfolding decide payloadOf payloadStart payloadLength headerBytes pageHeaderBytes bytes
+unfolding decide payloadOf payloadStart payloadLength headerBytes frontBytes identityBytes historyBytes pageHeaderBytes bytes
 first-page =
     rw (old-page, newer-slot)
     (pair-record oldPage newerSlot (firstPage .a .expect) (firstPage .b .expect) (Page 0 41) (record { a = olderRead; b = newerRead })
     (pageRecord 0 2) (slots-read .2) (slots-read .3) refl (page-accepted .1))
 
 second-page : PairRecord secondPage (record { a = secondRead; b = blankRead }) (pageRecord 1 0)
-unfolding decide payloadOf payloadStart payloadLength headerBytes pageHeaderBytes bytes
+unfolding decide payloadOf payloadStart payloadLength headerBytes frontBytes identityBytes historyBytes pageHeaderBytes bytes
 second-page =
     rw second-slot
     (pair-record secondSlot blankBytes (secondPage .a .expect) (secondPage .b .expect) (Page 1 41) (record { a = secondRead; b = blankRead })
@@ -228,7 +228,7 @@ pub record PageCuts : Type 0 where
 
 -- Each with how slot A is read; after 11 bytes the stored checksum has three new bytes and one old.
 pub page-computed : PageCuts
-unfolding cut lengthOk parseHeader check integrity shape place numberOk payloadOk payloadOf payloadStart payloadLength headerSum headerBytes pageHeaderBytes bytes le crc32c finalRemainder remainder digest reversed decide filled partBytes judged judgedBytes refusal judgeRow verdicts rowRules firstVerdicts firstTally writable storeRules cleanMark demoted healOf pairFrom partFrom partInRange pairInRange numbered badPayload badHeader blank oppositeSlot unsupported newer pairCase
+unfolding cut lengthOk parseHeader check integrity shape place numberOk payloadOk payloadOf payloadStart payloadLength headerSum headerBytes frontBytes identityBytes historyBytes pageHeaderBytes bytes le crc32c finalRemainder remainder digest reversed decide filled partBytes judged judgedBytes refusal judgeRow verdicts rowRules firstVerdicts firstTally writable storeRules cleanMark demoted healOf pairFrom partFrom partInRange pairInRange numbered badPayload badHeader blank oppositeSlot unsupported newer pairCase
 page-computed =
     record {
       page-0 = page-at 0 olderRead refl refl (page-accepted .1) refl refl;
@@ -257,7 +257,7 @@ pub record VolumeCuts : Type 0 where
   pub volume-192 : Computed (volumeWrite 192) Heal.Nothing true (0 ∷ 2 ∷ 1 ∷ 0 ∷ 0 ∷ 2 ∷ 1 ∷ 0 ∷ 0 ∷ 1 ∷ 0 ∷ 1 ∷ []) newVolumeRecords
 
 pub volume-computed : VolumeCuts
-unfolding cut lengthOk parseHeader check integrity shape place numberOk payloadOk payloadOf payloadStart payloadLength headerSum headerBytes volumeBytes baseBytes tailBytes bytes le crc32c finalRemainder remainder digest reversed decide filled partBytes judged judgedBytes refusal judgeRow verdicts rowRules firstVerdicts firstTally writable storeRules cleanMark demoted healOf pairFrom partFrom partInRange pairInRange numbered badPayload badHeader blank oppositeSlot unsupported newer pairCase standsWhole
+unfolding cut lengthOk parseHeader check integrity shape place numberOk payloadOk payloadOf payloadStart payloadLength headerSum headerBytes frontBytes identityBytes historyBytes volumeBytes baseBytes tailBytes bytes le crc32c finalRemainder remainder digest reversed decide filled partBytes judged judgedBytes refusal judgeRow verdicts rowRules firstVerdicts firstTally writable storeRules cleanMark demoted healOf pairFrom partFrom partInRange pairInRange numbered badPayload badHeader blank oppositeSlot unsupported newer pairCase standsWhole
 volume-computed =
     record {
       volume-0 = volume-at 0 blankRead refl refl (volume-accepted .0) false refl refl refl;
@@ -268,3 +268,17 @@ volume-computed =
       volume-191 = volume-at 191 tornVolume refl refl (volume-accepted .0) false refl refl refl;
       volume-192 = volume-at 192 markedRead refl refl (volume-accepted .2) true (volume-accepted .3) refl refl;
     }
+
+-- ---- what the theorem leaves out
+
+-- One to six bytes over the Blank slot are a broken magic, which the judge calls damage.
+abbrev tornMagic : SlotRead
+tornMagic = record { status = SlotStatus.BadMagic; facts = HeaderFacts.Nothing }
+
+abbrev magicCut : ℕ → SlotRead
+magicCut k = readOnce (cut k markedBytes blankBytes) (volumePair .b .expect)
+
+pub broken-magic : (magicCut 1 ≡ tornMagic) × (magicCut 2 ≡ tornMagic) × (magicCut 3 ≡ tornMagic) × (magicCut 4 ≡ tornMagic)
+    × (magicCut 5 ≡ tornMagic) × (magicCut 6 ≡ tornMagic)
+unfolding cut lengthOk parseHeader check integrity headerBytes frontBytes identityBytes historyBytes volumeBytes baseBytes tailBytes bytes le
+broken-magic = (refl, refl, refl, refl, refl, refl)

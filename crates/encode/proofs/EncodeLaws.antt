@@ -16,7 +16,7 @@ use Rattle.codec.proofs.ChecksumLaws.{crc-lt}
 use Rattle.codec.proofs.RunLaws.{same-refl}
 use Rattle.slot.specs.Status.{indexNumber}
 use Rattle.slot.specs.Read.{magic, header, headerSum, lengthOk, integrity, numberOk, shape, place, check, info, parseHeader, payloadStart, payloadLength, payload as payloadOf, payloadOk, validate, headerFacts}
-use Rattle.slot.specs.Write.{headerBytes, headerCrc, writtenHeader, slotBytes}
+use Rattle.slot.specs.Write.{frontBytes, identityBytes, historyBytes, headerBytes, headerCrc, writtenHeader, slotBytes}
 use Rattle.slot.specs.declared.slot.SlotIndex.{SlotIndex}
 use Rattle.slot.specs.declared.slot.SlotFields.{SlotFields}
 use Rattle.slot.specs.declared.slot.Expect.{Expect}
@@ -26,16 +26,9 @@ use Rattle.slot.specs.declared.slot.HeaderFacts.{HeaderFacts}
 use Rattle.slot.specs.declared.slot.RawHeader.{RawHeader}
 use Rattle.slot.specs.declared.slot.Check.{Check}
 use Rattle.slot.specs.declared.slot.Parsed.{Parsed}
+use Rattle.slot.proofs.WriteLaws.{length-header}
 
-pub length-header : (crc : ℕ) (f : SlotFields) (n payloadCrc : ℕ) → length (f .«volume_uuid») ≡ 16 → length (headerBytes crc f n payloadCrc) ≡ 128
-unfolding headerBytes
-length-header crc f n payloadCrc volume = simp (length-append, length-bytes, length-replicate, volume)
-
--- ---- the header in three parts: 32 bytes, the volume, 80 bytes
-
-abbrev front : ℕ → SlotFields → ℕ → List ℕ
-front crc f payloadCrc =
-    magic ++ bytes32 crc ++ bytes16 128 ++ bytes16 (f .«format_major») ++ bytes32 0 ++ bytes32 0 ++ bytes32 (f .«compat_flags») ++ bytes32 payloadCrc
+-- ---- the header taken apart at the volume: 32 bytes, the volume, 80 bytes
 
 abbrev back : SlotFields → ℕ → List ℕ
 back f n =
@@ -47,28 +40,23 @@ back f n =
     ++ bytes 1 2
     ++ bytes 1 (f .«log2_slot_size»)
     ++ bytes 1 0
-    ++ bytes32 (f .«prev_header_crc32c»)
-    ++ bytes32 0
-    ++ bytes64 (f .«owner_generation»)
-    ++ bytes64 (f .«meta_seq»)
-    ++ replicate 24 0
+    ++ historyBytes f
 
 -- Stated over variables, since numerals in a list would compute.
-regroup : (a v b1 b2 b3 b4 b5 b6 b7 b8 b9 b10 b11 b12 b13 : List ℕ)
-    → a ++ v ++ b1 ++ b2 ++ b3 ++ b4 ++ b5 ++ b6 ++ b7 ++ b8 ++ b9 ++ b10 ++ b11 ++ b12 ++ b13
-    ≡ a ++ (v ++ (b1 ++ b2 ++ b3 ++ b4 ++ b5 ++ b6 ++ b7 ++ b8 ++ b9 ++ b10 ++ b11 ++ b12 ++ b13))
-regroup a v b1 b2 b3 b4 b5 b6 b7 b8 b9 b10 b11 b12 b13 = simp append-assoc
+regroup : (a v b1 b2 b3 b4 b5 b6 b7 b8 b9 : List ℕ)
+    → a ++ (v ++ b1 ++ b2 ++ b3 ++ b4 ++ b5 ++ b6 ++ b7 ++ b8) ++ b9
+    ≡ a ++ (v ++ (b1 ++ b2 ++ b3 ++ b4 ++ b5 ++ b6 ++ b7 ++ b8 ++ b9))
+regroup a v b1 b2 b3 b4 b5 b6 b7 b8 b9 = simp append-assoc
 
-parts : (crc : ℕ) (f : SlotFields) (n payloadCrc : ℕ) → headerBytes crc f n payloadCrc ≡ front crc f payloadCrc ++ (f .«volume_uuid» ++ back f n)
-unfolding headerBytes
+parts : (crc : ℕ) (f : SlotFields) (n payloadCrc : ℕ) → headerBytes crc f n payloadCrc ≡ frontBytes crc f payloadCrc ++ (f .«volume_uuid» ++ back f n)
+unfolding headerBytes identityBytes
 parts crc f n payloadCrc =
-    regroup (front crc f payloadCrc) (f .«volume_uuid») (bytes64 (f .«object_id»)) (bytes64 (f .generation)) (bytes64 (f .«slot_offset»)) (bytes32 n)
-    (bytes 1 (indexNumber (f .«slot_index»))) (bytes 1 2) (bytes 1 (f .«log2_slot_size»)) (bytes 1 0) (bytes32 (f .«prev_header_crc32c»)) (bytes32 0)
-    (bytes64 (f .«owner_generation»)) (bytes64 (f .«meta_seq»)) (replicate 24 0)
+    regroup (frontBytes crc f payloadCrc) (f .«volume_uuid») (bytes64 (f .«object_id»)) (bytes64 (f .generation)) (bytes64 (f .«slot_offset»)) (bytes32 n)
+    (bytes 1 (indexNumber (f .«slot_index»))) (bytes 1 2) (bytes 1 (f .«log2_slot_size»)) (bytes 1 0) (historyBytes f)
 
 -- A checksum that is put over another.
 pub put-crc : (old crc : ℕ) (f : SlotFields) (n payloadCrc : ℕ) → put (headerBytes old f n payloadCrc) 8 (bytes32 crc) ≡ headerBytes crc f n payloadCrc
-unfolding put bytes
+unfolding put bytes frontBytes
 put-crc old crc f n payloadCrc = ap (λ (l : List ℕ). put l 8 (bytes32 crc)) (parts old f n payloadCrc) ∙ sym (parts crc f n payloadCrc)
 
 -- ---- the fields read back, whatever follows the header
@@ -119,17 +107,18 @@ module _ (crc : ℕ) (f : SlotFields) (n payloadCrc : ℕ) (rest : List ℕ) (vo
   abbrev whole : List ℕ
   whole = headerBytes crc f n payloadCrc ++ rest
 
-  three : whole ≡ front crc f payloadCrc ++ (f .«volume_uuid» ++ (back f n ++ rest))
+  three : whole ≡ frontBytes crc f payloadCrc ++ (f .«volume_uuid» ++ (back f n ++ rest))
   three =
       ap (λ (l : List ℕ). l ++ rest) (parts crc f n payloadCrc)
-      ∙ append-assoc (front crc f payloadCrc) (f .«volume_uuid» ++ back f n) rest
-      ∙ ap (λ (l : List ℕ). front crc f payloadCrc ++ l) (append-assoc (f .«volume_uuid») (back f n) rest)
+      ∙ append-assoc (frontBytes crc f payloadCrc) (f .«volume_uuid» ++ back f n) rest
+      ∙ ap (λ (l : List ℕ). frontBytes crc f payloadCrc ++ l) (append-assoc (f .«volume_uuid») (back f n) rest)
 
   pub magic-read : take 8 whole ≡ magic
+  unfolding frontBytes
   magic-read = ap (take 8) three
 
   from-volume : drop 32 whole ≡ f .«volume_uuid» ++ (back f n ++ rest)
-  unfolding bytes
+  unfolding bytes frontBytes
   from-volume = ap (drop 32) three
 
   pub volume-read : take 16 (drop 32 whole) ≡ f .«volume_uuid»
@@ -139,23 +128,23 @@ module _ (crc : ℕ) (f : SlotFields) (n payloadCrc : ℕ) (rest : List ℕ) (vo
   from-object = sym (drop-drop 16 32 whole) ∙ ap (drop 16) from-volume ∙ drop-at (f .«volume_uuid») (back f n ++ rest) 16 volume
 
   pub zeros-read : take 24 (drop 104 whole) ≡ replicate 24 0
-  unfolding bytes
+  unfolding bytes historyBytes
   zeros-read = ap (take 24) (sym (drop-drop 56 48 whole) ∙ ap (drop 56) from-object)
 
   -- A number behind the volume.
   behind : (w i : ℕ) → le w whole (32 + (16 + i)) ≡ le w (back f n ++ rest) i
-  unfolding bytes
+  unfolding bytes frontBytes
   behind w i =
       ap (λ (l : List ℕ). le w l (32 + (16 + i))) three
-      ∙ le-shift w (front crc f payloadCrc) (f .«volume_uuid» ++ (back f n ++ rest)) (16 + i)
+      ∙ le-shift w (frontBytes crc f payloadCrc) (f .«volume_uuid» ++ (back f n ++ rest)) (16 + i)
       ∙ ap (λ (k : ℕ). le w (f .«volume_uuid» ++ (back f n ++ rest)) (k + i)) (sym volume)
       ∙ le-shift w (f .«volume_uuid») (back f n ++ rest) i
 
   -- The checksum counts its own field as zero, and nothing behind the header.
   pub sum-read : headerSum whole 128 ≡ crc32c (headerBytes 0 f n payloadCrc)
-  unfolding headerSum bytes
+  unfolding headerSum bytes frontBytes historyBytes
   sum-read =
-      let tail : List ℕ = drop 12 (front crc f payloadCrc) ++ (f .«volume_uuid» ++ back f n) in
+      let tail : List ℕ = drop 12 (frontBytes crc f payloadCrc) ++ (f .«volume_uuid» ++ back f n) in
       let tail-length : length tail ≡ 116 = simp (length-append, volume) in
       let behind-field : take 116 (drop 12 whole) ≡ tail =
       ap (λ (l : List ℕ). take 116 (drop 12 (l ++ rest))) (parts crc f n payloadCrc) ∙ take-at tail rest 116 tail-length in
@@ -165,38 +154,38 @@ module _ {f : SlotFields} (fits : Fits f) (crc n payloadCrc : ℕ) (rest : List 
   abbrev s : List ℕ
   s = headerBytes crc f n payloadCrc ++ rest
 
-  ahead : (w i : ℕ) → le w s i ≡ le w (front crc f payloadCrc ++ (f .«volume_uuid» ++ (back f n ++ rest))) i
+  ahead : (w i : ℕ) → le w s i ≡ le w (frontBytes crc f payloadCrc ++ (f .«volume_uuid» ++ (back f n ++ rest))) i
   ahead w i = ap (λ (l : List ℕ). le w l i) (three crc f n payloadCrc rest (fits .volume))
 
   after : (w i : ℕ) → le w s (32 + (16 + i)) ≡ le w (back f n ++ rest) i
   after = behind crc f n payloadCrc rest (fits .volume)
 
   at-8 : le 4 s 8 ≡ crc
-  unfolding le bytes
+  unfolding le bytes frontBytes
   at-8 = ahead 4 8 ∙ le-bytes 4 crc [] crc-fits
 
   at-12 : le 2 s 12 ≡ 128
-  unfolding le bytes
+  unfolding le bytes frontBytes
   at-12 = ahead 2 12
 
   at-14 : le 2 s 14 ≡ f .«format_major»
-  unfolding le bytes
+  unfolding le bytes frontBytes
   at-14 = ahead 2 14 ∙ le-bytes 2 (f .«format_major») [] (fits .format)
 
   at-16 : le 4 s 16 ≡ 0
-  unfolding le bytes
+  unfolding le bytes frontBytes
   at-16 = ahead 4 16
 
   at-20 : le 4 s 20 ≡ 0
-  unfolding le bytes
+  unfolding le bytes frontBytes
   at-20 = ahead 4 20
 
   at-24 : le 4 s 24 ≡ f .«compat_flags»
-  unfolding le bytes
+  unfolding le bytes frontBytes
   at-24 = ahead 4 24 ∙ le-bytes 4 (f .«compat_flags») [] (fits .compat)
 
   at-28 : le 4 s 28 ≡ payloadCrc
-  unfolding le bytes
+  unfolding le bytes frontBytes
   at-28 = ahead 4 28 ∙ le-bytes 4 payloadCrc [] payload-fits
 
   at-48 : le 8 s 48 ≡ f .«object_id»
@@ -232,19 +221,19 @@ module _ {f : SlotFields} (fits : Fits f) (crc n payloadCrc : ℕ) (rest : List 
   at-79 = sym (le-byte s 79) ∙ after 1 31
 
   at-80 : le 4 s 80 ≡ f .«prev_header_crc32c»
-  unfolding le bytes
+  unfolding le bytes historyBytes
   at-80 = after 4 32 ∙ le-bytes 4 (f .«prev_header_crc32c») [] (fits .prev)
 
   at-84 : le 4 s 84 ≡ 0
-  unfolding le bytes
+  unfolding le bytes historyBytes
   at-84 = after 4 36
 
   at-88 : le 8 s 88 ≡ f .«owner_generation»
-  unfolding le bytes
+  unfolding le bytes historyBytes
   at-88 = after 8 40 ∙ le-bytes 8 (f .«owner_generation») [] (fits .owner)
 
   at-96 : le 8 s 96 ≡ f .«meta_seq»
-  unfolding le bytes
+  unfolding le bytes historyBytes
   at-96 = after 8 48 ∙ le-bytes 8 (f .«meta_seq») [] (fits .number)
 
   pub header-read : header s ≡ storedHeader crc f n payloadCrc
@@ -306,7 +295,7 @@ module _ {f : SlotFields} {numbered : Bool} (proper : Proper f numbered) (payloa
 
   -- Its first byte is 83.
   pub not-blank : allZero (take 128 slot) ≡ false
-  unfolding writtenHeader
+  unfolding writtenHeader frontBytes
   not-blank = ap (λ (l : List ℕ). allZero (take 128 l)) (three (headerCrc f payload) f (length payload) (crc32c payload) rest (proper .fits .volume))
 
   module _ (room : 128 + length payload ≤ length slot) where

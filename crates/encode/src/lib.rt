@@ -98,88 +98,11 @@ fn seal_header(header: &mut [u8], f: SlotFields, payload_len: u32, payload_crc32
     ensures { λ r. ⌜ r ≡ crc32c (headerBytes 0 f «payload_len» «payload_crc32c») ⌝ }
     ensures { λ r. ⌜ now (header .exit) ≡ headerBytes r f «payload_len» «payload_crc32c» ⌝ }
 {
-    write_header(header, f, payload_len, payload_crc32c);
+    header_write::write_header(header, f, payload_len, payload_crc32c);
     let header_crc32c = codec::crc32c::crc32c(header);
     let w = Writer { pos: 8 };
     let Written::Next(_) = w.u32(header, header_crc32c) else {
         return header_crc32c;
     };
     header_crc32c
-}
-
-// Writes every field, in the order of the layout, the header's CRC as zero.
-fn write_header(header: &mut [u8], f: SlotFields, payload_len: u32, payload_crc32c: u32)
-    requires { ⌜ length (now header) ≡ 128 ⌝ }
-    ensures { λ _. ⌜ now (header .exit) ≡ headerBytes 0 f «payload_len» «payload_crc32c» ⌝ }
-{
-    let volume_uuid = f.volume_uuid;
-    let slot_index = f.slot_index;
-    let index = slot_index.as_u8();
-    let w = Writer::new();
-    let Written::Next(w) = w.bytes(header, b"SIOSLOT\x00") else {
-        return;
-    };
-    let Written::Next(w) = w.u32(header, 0) else {
-        return;
-    };
-    let Written::Next(w) = w.u16(header, 128) else {
-        return;
-    };
-    let Written::Next(w) = w.u16(header, f.format_major) else {
-        return;
-    };
-    let Written::Next(w) = w.u32(header, 0) else {
-        return;
-    };
-    let Written::Next(w) = w.u32(header, 0) else {
-        return;
-    };
-    let Written::Next(w) = w.u32(header, f.compat_flags) else {
-        return;
-    };
-    let Written::Next(w) = w.u32(header, payload_crc32c) else {
-        return;
-    };
-    let Written::Next(w) = w.bytes(header, &volume_uuid) else {
-        return;
-    };
-    let Written::Next(w) = w.u64(header, f.object_id) else {
-        return;
-    };
-    let Written::Next(w) = w.u64(header, f.generation) else {
-        return;
-    };
-    let Written::Next(w) = w.u64(header, f.slot_offset) else {
-        return;
-    };
-    let Written::Next(w) = w.u32(header, payload_len) else {
-        return;
-    };
-    let Written::Next(w) = w.u8(header, index) else {
-        return;
-    };
-    let Written::Next(w) = w.u8(header, 2) else {
-        return;
-    };
-    let Written::Next(w) = w.u8(header, f.log2_slot_size) else {
-        return;
-    };
-    let Written::Next(w) = w.u8(header, 0) else {
-        return;
-    };
-    let Written::Next(w) = w.u32(header, f.prev_header_crc32c) else {
-        return;
-    };
-    let Written::Next(w) = w.u32(header, 0) else {
-        return;
-    };
-    let Written::Next(w) = w.u64(header, f.owner_generation) else {
-        return;
-    };
-    let Written::Next(w) = w.u64(header, f.meta_seq) else {
-        return;
-    };
-    let Written::Next(_) = w.zeros(header, 24) else {
-        return;
-    };
 }

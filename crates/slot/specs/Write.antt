@@ -11,9 +11,9 @@ use Rattle.slot.specs.Status.{indexNumber}
 use Rattle.slot.specs.Read.{magic}
 use Rattle.slot.specs.declared.slot.SlotFields.{SlotFields}
 
--- The header with the checksum crc, for a payload of some length and checksum.
-unfoldable pub headerBytes : ℕ → SlotFields → ℕ → ℕ → List ℕ
-headerBytes crc f len payloadCrc =
+-- The header in three parts. Bytes 0 to 32: magic, both checksums, header length, format and flags.
+unfoldable pub frontBytes : ℕ → SlotFields → ℕ → List ℕ
+frontBytes crc f payloadCrc =
     magic
     ++ bytes32 crc
     ++ bytes16 128
@@ -22,7 +22,11 @@ headerBytes crc f len payloadCrc =
     ++ bytes32 0
     ++ bytes32 (f .«compat_flags»)
     ++ bytes32 payloadCrc
-    ++ f .«volume_uuid»
+
+-- Bytes 32 to 80: which slot this is, and the length of its payload.
+unfoldable pub identityBytes : SlotFields → ℕ → List ℕ
+identityBytes f len =
+    f .«volume_uuid»
     ++ bytes64 (f .«object_id»)
     ++ bytes64 (f .generation)
     ++ bytes64 (f .«slot_offset»)
@@ -31,11 +35,19 @@ headerBytes crc f len payloadCrc =
     ++ bytes 1 2
     ++ bytes 1 (f .«log2_slot_size»)
     ++ bytes 1 0
-    ++ bytes32 (f .«prev_header_crc32c»)
+
+-- Bytes 80 to 128: the previous header's checksum, owner generation and number.
+unfoldable pub historyBytes : SlotFields → List ℕ
+historyBytes f =
+    bytes32 (f .«prev_header_crc32c»)
     ++ bytes32 0
     ++ bytes64 (f .«owner_generation»)
     ++ bytes64 (f .«meta_seq»)
     ++ replicate 24 0
+
+-- The header with the checksum crc, for a payload of some length and checksum.
+unfoldable pub headerBytes : ℕ → SlotFields → ℕ → ℕ → List ℕ
+headerBytes crc f len payloadCrc = frontBytes crc f payloadCrc ++ identityBytes f len ++ historyBytes f
 
 -- The header's checksum counts its own four bytes as zero.
 unfoldable pub headerCrc : SlotFields → List ℕ → ℕ

@@ -1,2 +1,2 @@
-// Layer 2: the slot as it is read.
+// Layer 2: the slot's types, with the questions to them.
 pub mod slot;

@@ -90,7 +90,7 @@ pub extern "C" fn sio_validate(
         format_major,
         numbered,
     );
-    let status = slot::slot::validate(slot, e);
+    let status = validate::validate(slot, e);
     *found = winner::status_values(status);
     status.code() as u32
 }
@@ -122,7 +122,7 @@ pub extern "C" fn sio_header_facts(
         format_major,
         numbered,
     );
-    let facts = slot::slot::header_facts(slot, e);
+    let facts = validate::header_facts(slot, e);
     *found = facts_values(facts);
     facts_number(facts)
 }
@@ -154,8 +154,8 @@ pub extern "C" fn sio_frame_slot(
         format_major,
         numbered,
     );
-    let status = slot::slot::validate(slot, e);
-    let facts = slot::slot::header_facts(slot, e);
+    let status = validate::validate(slot, e);
+    let facts = validate::header_facts(slot, e);
     *part = SlotPart::new(status, facts).bytes();
     status.code() as u32
 }

@@ -45,8 +45,8 @@ pub fn winner_payload<'a>(
 pub fn read_pair(a: &[u8], expect_a: Expect, b: &[u8], expect_b: Expect) -> PairReport
     ensures { λ r. ⌜ r ≡ readPair (now (a .entry)) «expect_a» (now (b .entry)) «expect_b» ⌝ }
 {
-    let status_a = slot::slot::validate(a, expect_a);
-    let status_b = slot::slot::validate(b, expect_b);
+    let status_a = validate::validate(a, expect_a);
+    let status_b = validate::validate(b, expect_b);
     pair::pair::decide(status_a, status_b)
 }
 

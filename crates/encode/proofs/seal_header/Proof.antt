@@ -1,5 +1,5 @@
 -- `seal_header` meets its contract: the checksum is that of the header with zeros in its place, and goes over these zeros.
-use mathlib.Core.Path.{_≡_, refl, ap, _∙_}
+use mathlib.Core.Path.{_≡_, refl, sym, ap, _∙_}
 use mathlib.Core.List.{List}
 use Prim.Native.Nat.{ℕ}
 use native.Mathlib.Omega.{arith}
@@ -7,8 +7,10 @@ use lib.ListN.{length}
 use Rattle.codec.specs.Bytes.{bytes32, put}
 use Rattle.codec.specs.Crc32c.{crc32c}
 use Rattle.codec.specs.Cursor.{writtenAnswer}
-use Rattle.codec.proofs.CursorLaws.{answer-refused, put-whole, length-bytes}
-use Rattle.encode.proofs.EncodeLaws.{length-header, put-crc}
+use Rattle.codec.proofs.CursorLaws.{answer-refused, put-whole, put-all, length-bytes}
+use Rattle.slot.specs.Write.{headerBytes}
+use Rattle.slot.proofs.WriteLaws.{length-header}
+use Rattle.encode.proofs.EncodeLaws.{put-crc}
 use borrow.Author.Needs.{needs}
 use Rattle.encode.proofs.seal_header.Statement.{statement}
 use Rattle.encode.proofs.seal_header.Tie as tie
@@ -17,11 +19,22 @@ use Rattle.encode.proofs.seal_header.Tie as tie
 abbrev header : tie.After-crc32c → List ℕ
 header c = c .before .before .before .before .write-header .last .0
 
-header-length : (c : tie.After-crc32c) → length (header c) ≡ 128
-header-length c =
-    let start = c .before .before .before .before .before .before .before in
-    let volume : length (start .args .f .«volume_uuid») ≡ 16 = search needs in
-    ap length (c .before .before .before .before .write-header .ensures) ∙ length-header 0 (start .args .f) _ _ volume
+abbrev start : tie.After-crc32c → tie.Start
+start c = c .before .before .before .before .before .before .before
+
+module _ (c : tie.After-crc32c) where
+  zero-length : length (headerBytes 0 (start c .args .f) (start c .args .payload-len) (start c .args .payload-crc32c)) ≡ 128
+  zero-length = let volume : length (start c .args .f .«volume_uuid») ≡ 16 = search needs in length-header 0 (start c .args .f) _ _ volume
+
+  zeroed : header c ≡ headerBytes 0 (start c .args .f) (start c .args .payload-len) (start c .args .payload-crc32c)
+  zeroed =
+      let same = zero-length ∙ sym (start c .pre) in
+      c .before .before .before .before .write-header .ensures
+      ∙ put-whole (start c .args .header .now) 0 _ (omega (arith, zero-length, start c .pre))
+      ∙ put-all (start c .args .header .now) _ same
+
+  header-length : length (header c) ≡ 128
+  header-length = ap length zeroed ∙ zero-length
 
 write-header-requires : tie.Need-write-header-requires
 write-header-requires c κs = search needs
@@ -53,15 +66,13 @@ same-length-2 c = search needs
 returns-2 : tie.Need-returns-2
 returns-2 c =
     let sealed = c .before .before .before .before .before .before in
-    let a = sealed .before .before .before .before .before .before .before .args in
     let crc = sealed .crc32c .result in
-    let zeroed = sealed .before .before .before .before .write-header .ensures in
     let fits = header-length sealed in (
-      sealed .crc32c .ensures ∙ ap crc32c zeroed,
+      sealed .crc32c .ensures ∙ ap crc32c (zeroed sealed),
       c .before .before .before .before .u32 .ensures .1
           ∙ put-whole (header sealed) 8 (bytes32 crc) (omega (arith, length-bytes 4 crc))
-          ∙ ap (λ (l : List ℕ). put l 8 (bytes32 crc)) zeroed
-          ∙ put-crc 0 crc (a .f) _ _,
+          ∙ ap (λ (l : List ℕ). put l 8 (bytes32 crc)) (zeroed sealed)
+          ∙ put-crc 0 crc (start sealed .args .f) _ _,
     )
 
 pub seal-header-spec : {M : Type 1} → statement M

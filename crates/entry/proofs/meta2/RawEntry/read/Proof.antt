@@ -1,6 +1,6 @@
 -- `read` meets its contract: front, name and places are those of the definition; where one of them is refused, the bytes end before the
 -- entry does.
-use mathlib.Core.Path.{_≡_, refl, sym, ap, _∙_}
+use mathlib.Core.Path.{refl, sym, ap, _∙_}
 use mathlib.Core.List.{List}
 use Prim.Native.Nat.{ℕ}
 use lib.Dec.{lit≤}
