@@ -19,6 +19,7 @@ pub fn u8_at(s: &[u8], at: usize) -> u8
     value
 }
 
+// The number in two bytes at a place, 0 where they do not lie in the field.
 pub fn u16_at(s: &[u8], at: usize) -> u16
     ensures { λ r. ⌜ r ≡ orZero (read 2 (now (s .entry)) at) ⌝ }
 {
@@ -28,6 +29,7 @@ pub fn u16_at(s: &[u8], at: usize) -> u16
     value
 }
 
+// In four bytes.
 pub fn u32_at(s: &[u8], at: usize) -> u32
     ensures { λ r. ⌜ r ≡ orZero (read 4 (now (s .entry)) at) ⌝ }
 {
@@ -37,6 +39,7 @@ pub fn u32_at(s: &[u8], at: usize) -> u32
     value
 }
 
+// In eight bytes.
 pub fn u64_at(s: &[u8], at: usize) -> u64
     ensures { λ r. ⌜ r ≡ orZero (read 8 (now (s .entry)) at) ⌝ }
 {
@@ -53,6 +56,7 @@ pub fn size_at(s: &[u8], at: usize) -> usize
     u64_at(s, at) as usize
 }
 
+// A length, stored in two bytes.
 pub fn length_at(s: &[u8], at: usize) -> usize
     ensures { λ r. ⌜ r ≡ orZero (read 2 (now (s .entry)) at) ⌝ }
 {

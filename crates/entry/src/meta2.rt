@@ -98,6 +98,7 @@ pub struct EntryFront {
     pub reserved: u16,
 }
 
+// They, or that there are fewer bytes.
 pub enum EntryFrontRead {
     Fields(EntryFront),
     Truncated,
@@ -114,6 +115,7 @@ pub struct EntryPlaces {
     pub footprint_seq: u64,
 }
 
+// They, or that there are fewer bytes.
 pub enum EntryPlacesRead {
     Fields(EntryPlaces),
     Truncated,
@@ -144,6 +146,7 @@ pub struct Entry2 {
     pub footprint_seq: u64,
 }
 
+// The checked entry, or the first check that fails.
 pub enum Entry2Read {
     Entry(Entry2),
     Refused(MetaError),
@@ -161,6 +164,7 @@ pub struct FoundName {
     pub name: RegionName,
 }
 
+// A kind, where the byte stands for one.
 pub enum FoundKind {
     Kind(RegionKind),
     Nothing,

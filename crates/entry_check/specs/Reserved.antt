@@ -1,5 +1,5 @@
--- What an entry keeps reserved although it fails its checks (003, `reserved_span`): its span widened to whole blocks, then clamped to
--- the file and to past the table.
+-- What an entry keeps reserved although it fails its checks (document 01, 003: `reserved_span` of meta2.rs): its span widened to whole
+-- blocks, then clamped to the file and to past the table.
 use mathlib.Core.Bool.{cond}
 use Prim.Native.Nat.{ℕ, _+_, _-_, _%_}
 use lib.Dec.{ltb, eqb}

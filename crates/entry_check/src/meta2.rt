@@ -35,6 +35,7 @@ pub fn check_known(flags: u8, log2_block: u8) -> Check
     Check::Pass
 }
 
+// 34: only an entry that is Ready is accepted.
 pub fn check_state(state: u8) -> Check
     ensures { λ r. ⌜ checkOutcome r ≡ stateCheck state ⌝ }
 {
@@ -103,6 +104,7 @@ pub fn check_header(header: u64, table_end: u64, start: u64, end: u64, log2_bloc
     Check::Pass
 }
 
+// 39: both headers in one place. 40: a footprint number of 0, or above the number of the page.
 pub fn check_footprint(
     header_a: u64,
     header_b: u64,

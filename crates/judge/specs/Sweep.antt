@@ -1,5 +1,5 @@
--- The passes over a row of pairs as the code makes them, one pair at a time. That they give the judgement is a law
--- (proofs/SweepLaws.antt).
+-- The passes over a row of pairs as the code makes them (judge.rs; document 01, "its two passes and their order"), one pair at a time.
+-- That they give the judgement is a law (proofs/SweepLaws.antt).
 use mathlib.Core.Bool.{Bool, cond}
 use mathlib.Core.List.{List, [], _∷_}
 use Prim.Native.Nat.{ℕ, _+_}

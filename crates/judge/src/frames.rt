@@ -49,6 +49,7 @@ const FRAME: usize = 2 * PART;
 
 const VERDICT: usize = 4;
 
+// The judgement, or the number of a refusal.
 pub enum Judged {
     // 8 no pair, 9 no four bytes a pair in the lent verdicts, 10 no whole frames or a value out of range.
     Refusal(u8),
@@ -140,6 +141,7 @@ fn in_range(frames: &[u8], n: usize) -> bool
 
 // ---- a verdict
 
+// Document 01's numbers of a standing,
 pub fn standing_number(s: Standing) -> u8
     ensures { λ r. ⌜ r ≡ standingNumber s ⌝ }
 {
@@ -160,6 +162,7 @@ fn slot_number(index: SlotIndex) -> u8
     }
 }
 
+// of a winner, 0 for none,
 pub fn winner_number(w: WinnerSlot) -> u8
     ensures { λ r. ⌜ r ≡ winnerNumber w ⌝ }
 {
@@ -169,6 +172,7 @@ pub fn winner_number(w: WinnerSlot) -> u8
     }
 }
 
+// and of what a slot means.
 pub fn slot_verdict_number(v: SlotVerdict) -> u8
     ensures { λ r. ⌜ r ≡ slotVerdictNumber v ⌝ }
 {

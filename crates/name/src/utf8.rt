@@ -9,6 +9,7 @@ pub struct Tail {
     pub high: u8,
 }
 
+// What a byte leaves to be read, or that it may not stand there.
 pub enum Step {
     Invalid,
     Next(Tail),

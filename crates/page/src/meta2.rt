@@ -44,11 +44,13 @@ pub struct Page {
     pub entries_len: usize,
 }
 
+// The header, or that there are fewer than its 24 bytes.
 pub enum HeaderRead {
     Header(PageHeader),
     Truncated,
 }
 
+// The page, or why it is refused.
 pub enum PageRead {
     Page(Page),
     Refused(MetaError),

@@ -51,12 +51,14 @@ pub enum RegionKind {
     Slot,
 }
 
+// A kind, or 33.
 pub enum KindRead {
     Kind(RegionKind),
     Refused(MetaError),
 }
 
 impl RegionKind {
+    // The stored byte.
     pub fn to_u8(self) -> u8
         ensures { λ r. ⌜ r ≡ kindNumber self ⌝ }
     {
@@ -67,6 +69,7 @@ impl RegionKind {
         }
     }
 
+    // The kind of a stored byte.
     pub fn from_u8(v: u8) -> KindRead
         ensures { λ r. ⌜ kindOutcome r ≡ kindOf v ⌝ }
     {
@@ -87,12 +90,14 @@ pub enum RegionState {
     Released,
 }
 
+// A state, or 34.
 pub enum StateRead {
     State(RegionState),
     Refused(MetaError),
 }
 
 impl RegionState {
+    // The stored byte.
     pub fn to_u8(self) -> u8
         ensures { λ r. ⌜ r ≡ stateNumber self ⌝ }
     {
@@ -102,6 +107,7 @@ impl RegionState {
         }
     }
 
+    // The state of a stored byte.
     pub fn from_u8(v: u8) -> StateRead
         ensures { λ r. ⌜ stateOutcome r ≡ stateOf v ⌝ }
     {

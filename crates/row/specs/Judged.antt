@@ -1,4 +1,5 @@
--- What the judge over a row answers for the pairs that frames stand for, and the verdicts that it leaves in an array of five.
+-- What the judge over a row (document 01, "Store verdict") answers for the pairs that frames stand for, and the verdicts that it
+-- leaves in an array of five.
 use mathlib.Core.Bool.{Bool, cond}
 use mathlib.Core.List.{List, _++_}
 use Prim.Native.Nat.{ℕ, _*_, _%_}

@@ -1,4 +1,5 @@
--- What record a frame stands for: the statuses by their numbers, the info of a Valid slot and the header's facts from the part's fields.
+-- What record a frame (document 01, "Store verdict") stands for: the statuses by their numbers, the info of a Valid slot and the
+-- header's facts from the part's fields.
 use mathlib.Core.Bool.{cond}
 use mathlib.Core.List.{List, [], _∷_}
 use lib.Dec.{eqb}

@@ -249,6 +249,7 @@ pub struct RawHeader {
     pub meta_seq: u64,
 }
 
+// The header, or that there are fewer than its 128 bytes.
 pub enum HeaderRead {
     Header(RawHeader),
     Truncated,

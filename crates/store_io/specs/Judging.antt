@@ -1,4 +1,5 @@
--- What a C host finds after a judgement: a refusal, or the numbers of the judgement. A slot is 0 none, 1 A, 2 B.
+-- What a C host finds after a judgement (document 01, "Store verdict"): a refusal, or the numbers of the judgement. A slot is 0 none,
+-- 1 A, 2 B.
 use mathlib.Core.List.{List, [], _∷_}
 use Prim.Native.Nat.{ℕ}
 use Rattle.verdict.specs.declared.verdict.Heal.{Heal}

@@ -1,4 +1,4 @@
--- Metadata as a C host hands it over, and the numbers that it finds.
+-- Metadata (document 01, "Volume record and pages") as a C host hands it over, and the numbers that it finds.
 use mathlib.Core.Bool.{false}
 use mathlib.Core.List.{List, [], _∷_}
 use Prim.Native.Nat.{ℕ}

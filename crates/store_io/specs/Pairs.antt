@@ -1,4 +1,4 @@
--- A pair as a C host hands it over, and the report that it finds.
+-- A pair (document 01, "Pair winner and payload") as a C host hands it over, and the report that it finds.
 use mathlib.Core.Bool.{Bool, true, false, cond}
 use mathlib.Core.List.{List, [], _∷_}
 use Prim.Native.Nat.{ℕ}

@@ -1,4 +1,5 @@
--- The winner's payload as a C host finds it: its slot (0 none, 1 A, 2 B), its start and its length in that slot.
+-- The winner's payload (document 01, "Pair winner and payload") as a C host finds it: its slot (0 none, 1 A, 2 B), its start and its
+-- length in that slot.
 use mathlib.Core.List.{List}
 use Prim.Native.Nat.{ℕ}
 use Rattle.slot.specs.Read.{payloadStart, payloadLength}

@@ -1,5 +1,5 @@
--- The rule by which the code finds the highest of the other numbers: two running maxima and a count. That it gives the same is a law
--- (proofs/NumberLaws.antt).
+-- The rule by which the code finds the highest of the other numbers (judge.rs): two running maxima and a count. That it gives the same
+-- as document 01's words is a law (proofs/NumberLaws.antt).
 use mathlib.Core.Bool.{Bool, true, cond}
 use mathlib.Core.List.{List, [], _∷_}
 use Prim.Native.Nat.{ℕ, _+_}

@@ -1,4 +1,4 @@
--- The first pass as the code makes it, by its maxima. That it gives the same as the definition is a law (proofs/PassLaws.antt).
+-- The first pass as the code makes it (judge.rs), by its maxima. That it gives the same as the definition is a law (proofs/PassLaws.antt).
 use mathlib.Core.Bool.{Bool, false}
 use mathlib.Core.List.{List, [], _∷_}
 use Rattle.verdict.specs.declared.pairs.PairPart.{PairPart}

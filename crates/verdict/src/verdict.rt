@@ -176,6 +176,7 @@ fn is_in_flight(v: SlotVerdict) -> bool
     }
 }
 
+// Whether a slot of the pair is the write in flight.
 pub fn in_flight(v: PairVerdict) -> bool
     ensures { λ r. ⌜ r ≡ inFlight v ⌝ }
 {

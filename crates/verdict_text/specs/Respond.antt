@@ -1,4 +1,5 @@
--- What `respond` answers by the room of the lent output, and what it leaves there: the text at its front, or what it held.
+-- What `respond` answers (document 01, program `verdicts`) by the room of the lent output, and what it leaves there: the text at its
+-- front, or what it held.
 use mathlib.Core.Bool.{Bool, true, false, cond}
 use mathlib.Core.List.{List}
 use mathlib.Core.Option.{Option, some, none}

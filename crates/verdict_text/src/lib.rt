@@ -37,6 +37,7 @@ const PAIRS: usize = 624;
 
 const ROOM: usize = PAIRS * VERDICT_LINE + LAST_LINE;
 
+// What became of an answer.
 pub enum Responded {
     // The number of bytes that were written to the start of the output.
     Bytes(usize),

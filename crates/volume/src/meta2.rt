@@ -55,11 +55,13 @@ pub struct RawTail {
     pub reserved1: u32,
 }
 
+// They, or that there are fewer bytes.
 pub enum RawTailRead {
     Fields(RawTail),
     Truncated,
 }
 
+// The record, or the first check that fails.
 pub enum VolumeMeta2Read {
     Record(VolumeMeta2),
     Refused(MetaError),

@@ -53,11 +53,13 @@ pub struct RawVolumeMeta {
     pub reserved1: u64,
 }
 
+// They, or that there are fewer bytes.
 pub enum RawVolumeMetaRead {
     Fields(RawVolumeMeta),
     Truncated,
 }
 
+// The record, or the first check that fails.
 pub enum VolumeMetaRead {
     Record(VolumeMeta),
     Refused(MetaError),

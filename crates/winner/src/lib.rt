@@ -98,6 +98,7 @@ pub fn status_values(status: SlotStatus) -> [u64; 9]
     }
 }
 
+// The number of a standing: 0 to 3 as of a verdict, 4 Empty, 5 Fork.
 pub fn winner_number(winner: Winner) -> u8
     ensures { λ r. ⌜ r ≡ winnerNumber winner ⌝ }
 {
@@ -111,6 +112,7 @@ pub fn winner_number(winner: Winner) -> u8
     }
 }
 
+// The winner: 0 none, 1 A, 2 B.
 pub fn winner_slot(winner: Winner) -> u8
     ensures { λ r. ⌜ r ≡ winnerSlot winner ⌝ }
 {
@@ -124,6 +126,7 @@ pub fn winner_slot(winner: Winner) -> u8
     }
 }
 
+// 1 for A, 2 for B.
 pub fn slot_number(index: SlotIndex) -> u8
     ensures { λ r. ⌜ r ≡ slotNumber index ⌝ }
 {
@@ -133,6 +136,7 @@ pub fn slot_number(index: SlotIndex) -> u8
     }
 }
 
+// 1 for yes.
 pub fn flag(set: bool) -> u8
     ensures { λ r. ⌜ r ≡ flag set ⌝ }
 {
