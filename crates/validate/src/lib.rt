@@ -1,4 +1,4 @@
-// Layer 2: what one slot's bytes are worth: its status, and what its header shows whether or not the slot is valid.
+// Layer 2: what one slot's bytes hold: its status, and what its header shows whether or not the slot is valid.
 use codec::codec::ReadU32;
 use codec::codec::Reader;
 use slot::slot::Expect;
