@@ -1,4 +1,4 @@
--- Laws of runs compared: what the tests say of the lists, and a loop that compares, a byte a turn.
+-- Laws of runs compared: what the tests say of the lists, and a loop that compares, a byte a turn, to the end.
 use mathlib.Core.Path.{_≡_, refl, sym, ap, ap₂, _∙_}
 use mathlib.Core.Bool.{Bool, true, false, cond}
 use mathlib.Core.List.{List, [], _∷_}
@@ -35,30 +35,44 @@ same-length (x ∷ s) (y ∷ t) differ = go (eqb x y) (same-length s t (λ is. d
     go true rest = rest
     go false rest = refl
 
--- ---- a loop: what is left to compare gives the answer
+-- ---- a loop: what was found before, and what is left to compare, give the answer
 
-module _ (s t : List ℕ) (i : ℕ) (in-s : i < length s) (in-t : i < length t) {answer : Bool} (left : same (drop i s) (drop i t) ≡ answer) where
-  here : cond (eqb (getD s i 0) (getD t i 0)) (same (drop (suc i) s) (drop (suc i) t)) false ≡ answer
-  here = sym (ap₂ same (drop-cons s i 0 in-s) (drop-cons t i 0 in-t)) ∙ left
+-- The next test is asked with what is left, or with what was found before.
+next-found : (before next rest : Bool) → cond (cond next before false) rest false ≡ cond before (cond next rest false) false
+next-found true true rest = refl
+next-found true false rest = refl
+next-found false true rest = refl
+next-found false false rest = refl
 
-  pub same-more : getD s i 0 ≡ getD t i 0 → same (drop (i + 1) s) (drop (i + 1) t) ≡ answer
-  same-more is = rw add-one (sym (ap (λ (b : Bool). cond b (same (drop (suc i) s) (drop (suc i) t)) false) (eq-eqb _ _ is)) ∙ here)
+none-left : (before : Bool) → before ≡ cond before true false
+none-left true = refl
+none-left false = refl
 
-  pub same-stop : (getD s i 0 ≡ getD t i 0 → ⊥) → false ≡ answer
-  same-stop differ = sym (ap (λ (b : Bool). cond b (same (drop (suc i) s) (drop (suc i) t)) false) (ne-eqb _ _ differ)) ∙ here
+module _ (s t : List ℕ) (i : ℕ) (before : Bool) {answer : Bool} where
+  pub same-next : {after : Bool} → i < length s → i < length t → cond before (same (drop i s) (drop i t)) false ≡ answer
+      → after ≡ cond (eqb (getD s i 0) (getD t i 0)) before false → cond after (same (drop (i + 1) s) (drop (i + 1) t)) false ≡ answer
+  same-next in-s in-t left found =
+      rw add-one
+      (ap (λ (b : Bool). cond b (same (drop (suc i) s) (drop (suc i) t)) false) found
+      ∙ next-found before (eqb (getD s i 0) (getD t i 0)) (same (drop (suc i) s) (drop (suc i) t))
+      ∙ ap (λ (b : Bool). cond before b false) (sym (ap₂ same (drop-cons s i 0 in-s) (drop-cons t i 0 in-t)))
+      ∙ left)
 
-pub same-end : (s t : List ℕ) (i : ℕ) {answer : Bool} → length s ≤ i → length t ≤ i → same (drop i s) (drop i t) ≡ answer → true ≡ answer
-same-end s t i end-s end-t left = sym (ap₂ same (drop-of-length-le s end-s) (drop-of-length-le t end-t)) ∙ left
+  pub same-end : length s ≤ i → length t ≤ i → cond before (same (drop i s) (drop i t)) false ≡ answer → before ≡ answer
+  same-end end-s end-t left =
+      none-left before
+      ∙ ap (λ (b : Bool). cond before b false) (sym (ap₂ same (drop-of-length-le s end-s) (drop-of-length-le t end-t)))
+      ∙ left
 
-module _ (s : List ℕ) (i : ℕ) (inside : i < length s) {answer : Bool} (left : allZero (drop i s) ≡ answer) where
-  zero-here : cond (eqb (getD s i 0) 0) (allZero (drop (suc i) s)) false ≡ answer
-  zero-here = sym (ap allZero (drop-cons s i 0 inside)) ∙ left
+module _ (s : List ℕ) (i : ℕ) (before : Bool) {answer : Bool} where
+  pub zero-next : {after : Bool} → i < length s → cond before (allZero (drop i s)) false ≡ answer → after ≡ cond (eqb (getD s i 0) 0) before false
+      → cond after (allZero (drop (i + 1) s)) false ≡ answer
+  zero-next inside left found =
+      rw add-one
+      (ap (λ (b : Bool). cond b (allZero (drop (suc i) s)) false) found
+      ∙ next-found before (eqb (getD s i 0) 0) (allZero (drop (suc i) s))
+      ∙ ap (λ (b : Bool). cond before b false) (sym (ap allZero (drop-cons s i 0 inside)))
+      ∙ left)
 
-  pub zero-more : getD s i 0 ≡ 0 → allZero (drop (i + 1) s) ≡ answer
-  zero-more is = rw add-one (sym (ap (λ (b : Bool). cond b (allZero (drop (suc i) s)) false) (eq-eqb _ _ is)) ∙ zero-here)
-
-  pub zero-stop : (getD s i 0 ≡ 0 → ⊥) → false ≡ answer
-  zero-stop differ = sym (ap (λ (b : Bool). cond b (allZero (drop (suc i) s)) false) (ne-eqb _ _ differ)) ∙ zero-here
-
-pub zero-end : (s : List ℕ) (i : ℕ) {answer : Bool} → length s ≤ i → allZero (drop i s) ≡ answer → true ≡ answer
-zero-end s i end left = sym (ap allZero (drop-of-length-le s end)) ∙ left
+  pub zero-end : length s ≤ i → cond before (allZero (drop i s)) false ≡ answer → before ≡ answer
+  zero-end end left = none-left before ∙ ap (λ (b : Bool). cond before b false) (sym (ap allZero (drop-of-length-le s end))) ∙ left
