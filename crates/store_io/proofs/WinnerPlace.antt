@@ -7,14 +7,14 @@ use native.Mathlib.Omega.{arith}
 use borrow.Author.Tests.{ltb-false}
 use denote.Ref.{RefT, now}
 use lib.Dec.{ltb}
-use lib.ListN.{length, take, drop, length-take, length-drop}
+use lib.ListN.{length, take, drop, length-drop}
 use lib.Seq.{length-take-le}
 use Rattle.slot.specs.Read.{payloadStart, payloadLength}
 use Rattle.slot.specs.declared.slot.SlotIndex.{SlotIndex}
 use Rattle.slot.specs.declared.slot.SlotInfo.{SlotInfo}
 use Rattle.pair.specs.declared.pair.WinnerInfo.{WinnerInfo}
 use Rattle.winner.specs.Winner.{WinnerPart}
-use Rattle.store_io.specs.Winners.{winnerLength}
+use Rattle.host_slots.specs.Winners.{winnerLength}
 
 payload-size : (i : SlotInfo) (s : List ℕ) → length (take (payloadLength i (length s)) (drop (payloadStart i (length s)) s)) ≡ payloadLength i (length s)
 unfolding payloadStart payloadLength

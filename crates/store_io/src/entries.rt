@@ -1,12 +1,13 @@
 // Table entries for C hosts.
-use entry::meta2::Checked;
-use entry::meta2::Entry2;
 use entry::meta2::Entry2Read;
 use entry::meta2::EntryLimits;
-use entry::meta2::FoundKind;
 use entry::meta2::RawEntry;
-use entry_check::meta2::ReservedSpan;
-use name::meta::RegionName;
+use host_meta::entries::check_at;
+use host_meta::entries::entry_values;
+use host_meta::entries::kind_number;
+use host_meta::entries::raw_values;
+use host_meta::entries::span_values;
+use host_meta::entries::stored_bytes;
 use region::meta::Check;
 use region::meta::MetaEncoded;
 ghost use mathlib.Core.Path.{_≡_};
@@ -14,9 +15,8 @@ ghost use Rattle.codec.specs.Bytes.{putWhole};
 ghost use Rattle.region.specs.Error.{fitted};
 ghost use Rattle.name.specs.Name.{paddedName};
 ghost use Rattle.entry.specs.Entry.{entryRead, rawEntryOr, entryBytes, foundKind, foundKindName, reservedSpan};
-ghost use Rattle.entry.specs.Check.{entryOutcome};
 ghost use Rattle.store_io.specs.Host.{outcomeRefusal, outcomeOr};
-ghost use Rattle.store_io.specs.Metadata.{replaced, valuesOr, rawOf, limitsOf, rawValues, entryValues, checkedAt, checkedNameAt, restored, foundKindNumber, spanValues};
+ghost use Rattle.host_meta.specs.Metadata.{replaced, valuesOr, rawOf, limitsOf, rawValues, entryValues, checkedAt, checkedNameAt, restored, foundKindNumber, spanValues};
 
 // An entry's fields.
 #[no_mangle]
@@ -230,104 +230,5 @@ pub extern "C" fn sio_reserved_span(
             *span = span_values(raw.reserved_span(limits));
             0
         }
-    }
-}
-
-// The answer of `check` for the entry in the first 96 bytes.
-fn check_at(
-    entry: &[u8],
-    log2_block: u8,
-    table_end: u64,
-    file_len: u64,
-    page_meta_seq: u64,
-) -> Checked
-    ensures { λ r. ⌜ entryOutcome (r .answer) ≡ checkedAt (now (entry .entry)) (limitsOf «log2_block» «table_end» «file_len» «page_meta_seq») ⌝ }
-    ensures { λ r. ⌜ r .name ≡ checkedNameAt (now (entry .entry)) (limitsOf «log2_block» «table_end» «file_len» «page_meta_seq») ⌝ }
-{
-    let read = RawEntry::read(entry);
-    let answer = read.answer;
-    let Check::Fail(error) = answer else {
-        let raw = read.entry;
-        let limits = EntryLimits {
-            log2_block,
-            table_end,
-            file_len,
-            page_meta_seq,
-        };
-        return raw.check(limits);
-    };
-    Checked {
-        answer: Entry2Read::Refused(error),
-        name: RegionName::none(),
-    }
-}
-
-// The 96 bytes of an entry.
-fn stored_bytes(e: RawEntry) -> [u8; 96]
-    ensures { λ r. ⌜ r ≡ entryBytes e ⌝ }
-{
-    let mut bytes = [0u8; 96];
-    e.write(&mut bytes);
-    bytes
-}
-
-fn raw_values(e: RawEntry) -> [u64; 15]
-    ensures { λ r. ⌜ r ≡ rawValues e ⌝ }
-{
-    [
-        e.seq as u64,
-        e.kind as u64,
-        e.state as u64,
-        e.flags as u64,
-        e.compat_flags as u64,
-        e.tag as u64,
-        e.extent_count as u64,
-        e.reserved as u64,
-        e.header_a,
-        e.header_b,
-        e.data_size,
-        e.capacity,
-        e.span_start,
-        e.span_end,
-        e.footprint_seq,
-    ]
-}
-
-fn entry_values(e: Entry2) -> [u64; 13]
-    ensures { λ r. ⌜ r ≡ entryValues e ⌝ }
-{
-    let kind = e.kind;
-    [
-        e.seq as u64,
-        kind.to_u8() as u64,
-        e.flags as u64,
-        e.compat_flags as u64,
-        e.tag as u64,
-        e.extent_count as u64,
-        e.header_a,
-        e.header_b,
-        e.data_size,
-        e.capacity,
-        e.span_start,
-        e.span_end,
-        e.footprint_seq,
-    ]
-}
-
-fn kind_number(kind: FoundKind) -> u8
-    ensures { λ r. ⌜ r ≡ foundKindNumber kind ⌝ }
-{
-    match kind {
-        FoundKind::Nothing => 0,
-        FoundKind::Kind(found) => found.to_u8(),
-    }
-}
-
-fn span_values(span: ReservedSpan) -> [u64; 2]
-    ensures { λ r. ⌜ r ≡ spanValues span ⌝ }
-{
-    match span {
-        ReservedSpan::Nothing => [0, 0],
-        ReservedSpan::Span(start, end) => [start, end],
     }
 }

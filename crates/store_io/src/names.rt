@@ -4,7 +4,7 @@ use region::meta::Check;
 ghost use mathlib.Core.Path.{_≡_};
 ghost use Rattle.name.specs.Name.{nameCheck, nameOf, paddedCheck, paddedName};
 ghost use Rattle.store_io.specs.Host.{outcomeRefusal};
-ghost use Rattle.store_io.specs.Metadata.{replaced};
+ghost use Rattle.host_meta.specs.Metadata.{replaced};
 
 // Stores a name.
 #[no_mangle]

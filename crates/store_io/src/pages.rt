@@ -1,4 +1,5 @@
 // Table pages for C hosts.
+use host_meta::pages::page_values;
 use page::meta2::Page;
 use page::meta2::PageHeader;
 use page::meta2::PageRead;
@@ -8,7 +9,7 @@ ghost use lib.ListN.{length};
 ghost use Rattle.page.specs.Read.{decodePage};
 ghost use Rattle.page.specs.Write.{encodePage, encodedPage};
 ghost use Rattle.store_io.specs.Host.{outcomeRefusal, outcomeOr};
-ghost use Rattle.store_io.specs.Metadata.{valuesOr, headerOf, pageValues};
+ghost use Rattle.host_meta.specs.Metadata.{valuesOr, headerOf, pageValues};
 
 // Decodes a page.
 #[no_mangle]
@@ -56,17 +57,4 @@ pub extern "C" fn sio_encode_page(
             0
         }
     }
-}
-
-fn page_values(p: Page) -> [u64; 5]
-    ensures { λ r. ⌜ r ≡ pageValues p ⌝ }
-{
-    let header = p.header;
-    [
-        header.page_index as u64,
-        header.next_seq as u64,
-        header.count as u64,
-        p.entries_start as u64,
-        p.entries_len as u64,
-    ]
 }

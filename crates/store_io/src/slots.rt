@@ -1,22 +1,21 @@
 // Slots for C hosts: the volume id as two numbers, any index but 0 is B, any `numbered` but 0 is yes.
-use encode::EncodeError;
 use encode::Encoded;
 use frame::frame::SlotPart;
-use slot::slot::Expect;
-use slot::slot::HeaderFacts;
+use host_slots::slots::error_number;
+use host_slots::slots::expect_of;
+use host_slots::slots::facts_number;
+use host_slots::slots::facts_values;
+use host_slots::slots::index_of;
+use host_slots::slots::volume_id;
 use slot::slot::SlotFields;
-use slot::slot::SlotIndex;
 ghost use mathlib.Core.Path.{_≡_};
-ghost use mathlib.Core.List.{_++_};
-ghost use Rattle.codec.specs.Bytes.{bytes64};
 ghost use Rattle.slot.specs.Status.{code, factsNumber};
 ghost use Rattle.slot.specs.Read.{validate, headerFacts};
 ghost use Rattle.slot.specs.Write.{encode, encodedBytes};
 ghost use Rattle.frame.specs.Frame.{partOf, partBytes};
 ghost use Rattle.winner.specs.Winner.{statusValues};
-ghost use Rattle.store_io.specs.Slots.{volumeId, indexOf, isYes, fieldsOf, expectOf, factsValues};
+ghost use Rattle.host_slots.specs.Slots.{fieldsOf, expectOf, factsValues};
 ghost use Rattle.store_io.specs.Host.{outcomeRefusal, outcomeOr};
-ghost use Rattle.encode.specs.Encoded.{errorNumber};
 
 // Encodes a complete slot.
 #[no_mangle]
@@ -158,98 +157,4 @@ pub extern "C" fn sio_frame_slot(
     let facts = validate::header_facts(slot, e);
     *part = SlotPart::new(status, facts).bytes();
     status.code() as u32
-}
-
-// The volume id's first eight bytes are in the first number.
-fn volume_id(volume0: u64, volume1: u64) -> [u8; 16]
-    ensures { λ r. ⌜ r ≡ volumeId volume0 volume1 ⌝ }
-{
-    [
-        (volume0 % 0x100) as u8,
-        (volume0 / 0x100 % 0x100) as u8,
-        (volume0 / 0x10000 % 0x100) as u8,
-        (volume0 / 0x1000000 % 0x100) as u8,
-        (volume0 / 0x100000000 % 0x100) as u8,
-        (volume0 / 0x10000000000 % 0x100) as u8,
-        (volume0 / 0x1000000000000 % 0x100) as u8,
-        (volume0 / 0x100000000000000 % 0x100) as u8,
-        (volume1 % 0x100) as u8,
-        (volume1 / 0x100 % 0x100) as u8,
-        (volume1 / 0x10000 % 0x100) as u8,
-        (volume1 / 0x1000000 % 0x100) as u8,
-        (volume1 / 0x100000000 % 0x100) as u8,
-        (volume1 / 0x10000000000 % 0x100) as u8,
-        (volume1 / 0x1000000000000 % 0x100) as u8,
-        (volume1 / 0x100000000000000 % 0x100) as u8,
-    ]
-}
-
-fn index_of(index: u32) -> SlotIndex
-    ensures { λ r. ⌜ r ≡ indexOf index ⌝ }
-{
-    if index == 0 {
-        return SlotIndex::A;
-    }
-    SlotIndex::B
-}
-
-// What a slot is read with.
-pub fn expect_of(
-    volume0: u64,
-    volume1: u64,
-    object_id: u64,
-    slot_offset: u64,
-    index: u32,
-    log2_slot_size: u8,
-    format_major: u16,
-    numbered: u32,
-) -> Expect
-    ensures { λ r. ⌜ r ≡ expectOf volume0 volume1 «object_id» «slot_offset» index «log2_slot_size» «format_major» numbered ⌝ }
-{
-    Expect {
-        volume_uuid: volume_id(volume0, volume1),
-        object_id,
-        slot_offset,
-        slot_index: index_of(index),
-        log2_slot_size,
-        format_major,
-        numbered: numbered != 0,
-    }
-}
-
-fn error_number(error: EncodeError) -> u32
-    ensures { λ r. ⌜ r ≡ errorNumber error ⌝ }
-{
-    match error {
-        EncodeError::SlotSize => 1,
-        EncodeError::BufferLength => 2,
-        EncodeError::PayloadTooLarge => 3,
-        EncodeError::ZeroGeneration => 4,
-        EncodeError::Format => 5,
-    }
-}
-
-fn facts_number(facts: HeaderFacts) -> u32
-    ensures { λ r. ⌜ r ≡ factsNumber facts ⌝ }
-{
-    match facts {
-        HeaderFacts::Nothing => 0,
-        HeaderFacts::Stored(_) => 1,
-        HeaderFacts::Numbered(_, _) => 2,
-    }
-}
-
-fn facts_values(facts: HeaderFacts) -> [u64; 4]
-    ensures { λ r. ⌜ r ≡ factsValues facts ⌝ }
-{
-    match facts {
-        HeaderFacts::Nothing => [0; 4],
-        HeaderFacts::Stored(stored) => [stored as u64, 0, 0, 0],
-        HeaderFacts::Numbered(stored, n) => [
-            stored as u64,
-            n.generation,
-            n.meta_seq,
-            n.prev_header_crc32c as u64,
-        ],
-    }
 }

@@ -1,4 +1,7 @@
 // The volume record for C hosts.
+use host_meta::volumes::base_values;
+use host_meta::volumes::table_of;
+use host_meta::volumes::volume_values;
 use region::meta::Check;
 use region::meta::MetaEncoded;
 use volume::meta2::TableEnd;
@@ -13,9 +16,7 @@ ghost use Rattle.region.specs.Error.{fitted};
 ghost use Rattle.volume_base.specs.Base.{decodeBase, baseBytes};
 ghost use Rattle.volume.specs.Volume.{decodeVolume, volumeBytes, tableEnd, fileCheck};
 ghost use Rattle.store_io.specs.Host.{outcomeRefusal, outcomeOr};
-ghost use Rattle.store_io.specs.Slots.{isYes};
-ghost use Rattle.winner.specs.Winner.{flag};
-ghost use Rattle.store_io.specs.Metadata.{valuesOr, baseOf, volumeOf, tableOf, baseValues, volumeValues};
+ghost use Rattle.host_meta.specs.Metadata.{valuesOr, baseOf, volumeOf, tableOf, baseValues, volumeValues};
 
 // Decodes a record of 64 bytes.
 #[no_mangle]
@@ -171,67 +172,4 @@ pub extern "C" fn sio_check_file_len(
         Check::Fail(error) => error.number() as u32,
         Check::Pass => 0,
     }
-}
-
-// A record with a table's geometry, zeros elsewhere.
-fn table_of(log2_block_size: u8, log2_table_slot_size: u8, table_pages: u32) -> VolumeMeta2
-    ensures { λ r. ⌜ r ≡ tableOf «log2_block_size» «log2_table_slot_size» «table_pages» ⌝ }
-{
-    VolumeMeta2 {
-        base: VolumeMeta {
-            log2_block_size,
-            log2_table_slot_size,
-            device_index: 0,
-            owner_generation: 0,
-            table_offset: 0,
-            created_unix_s: 0,
-            features: 0,
-        },
-        table_pages,
-        entries_per_page: 0,
-        clean_close: false,
-        flags: 0,
-    }
-}
-
-fn base_values(v: VolumeMeta) -> [u64; 7]
-    ensures { λ r. ⌜ r ≡ baseValues v ⌝ }
-{
-    [
-        v.log2_block_size as u64,
-        v.log2_table_slot_size as u64,
-        v.device_index as u64,
-        v.owner_generation,
-        v.table_offset,
-        v.created_unix_s,
-        v.features,
-    ]
-}
-
-fn volume_values(v: VolumeMeta2) -> [u64; 11]
-    ensures { λ r. ⌜ r ≡ volumeValues v ⌝ }
-{
-    let base = v.base;
-    [
-        base.log2_block_size as u64,
-        base.log2_table_slot_size as u64,
-        base.device_index as u64,
-        base.owner_generation,
-        base.table_offset,
-        base.created_unix_s,
-        base.features,
-        v.table_pages as u64,
-        v.entries_per_page as u64,
-        mark(v.clean_close),
-        v.flags as u64,
-    ]
-}
-
-fn mark(clean_close: bool) -> u64
-    ensures { λ r. ⌜ r ≡ flag «clean_close» ⌝ }
-{
-    if clean_close {
-        return 1;
-    }
-    0
 }

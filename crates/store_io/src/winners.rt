@@ -1,14 +1,12 @@
 // The winner's payload for C hosts: its slot, and where it lies in that slot's bytes.
-use crate::slots::expect_of;
-use pair::pair::WinnerInfo;
-use slot::slot::SlotIndex;
-use slot::slot::SlotInfo;
+use host_slots::slots::expect_of;
+use host_slots::winners::winner_index;
+use host_slots::winners::winner_start;
 ghost use mathlib.Core.Path.{_≡_};
 ghost use lib.ListN.{length};
-ghost use Rattle.slot.specs.Read.{payloadStart, payloadLength};
 ghost use Rattle.pair.specs.Pair.{winnerInfo};
-ghost use Rattle.winner.specs.Winner.{readPair, statusValues, reportNumbers};
-ghost use Rattle.store_io.specs.Winners.{pairOf, winnerIndex, winnerStart, winnerLength};
+ghost use Rattle.winner.specs.Winner.{statusValues, reportNumbers};
+ghost use Rattle.host_slots.specs.Winners.{pairOf, winnerIndex, winnerStart, winnerLength};
 
 // Validates both slots of a pair and names the winner's payload.
 #[no_mangle]
@@ -62,37 +60,4 @@ pub extern "C" fn sio_winner_payload<'a>(
     *start = winner_start(info, a.len(), b.len());
     *payload_len = part.len();
     winner_index(info)
-}
-
-fn winner_index(info: WinnerInfo) -> u32
-    ensures { λ r. ⌜ r ≡ winnerIndex info ⌝ }
-{
-    match info {
-        WinnerInfo::Nothing => 0,
-        WinnerInfo::Won(index, _) => winner::slot_number(index) as u32,
-    }
-}
-
-// Where the payload starts in slots of these lengths.
-fn winner_start(info: WinnerInfo, a_len: usize, b_len: usize) -> usize
-    ensures { λ r. ⌜ r ≡ winnerStart «a_len» «b_len» info ⌝ }
-{
-    match info {
-        WinnerInfo::Nothing => 0,
-        WinnerInfo::Won(index, i) => match index {
-            SlotIndex::A => payload_start(i, a_len),
-            SlotIndex::B => payload_start(i, b_len),
-        },
-    }
-}
-
-fn payload_start(info: SlotInfo, len: usize) -> usize
-    ensures { λ r. ⌜ r ≡ payloadStart info len ⌝ }
-{
-    let start = info.payload_start as usize;
-    let end = start + (info.payload_len as usize);
-    if len < end {
-        return 0;
-    }
-    start
 }

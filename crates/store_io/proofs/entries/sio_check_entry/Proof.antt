@@ -3,7 +3,7 @@ use mathlib.Core.Path.{sym, ap, _∙_}
 use Rattle.entry.specs.Check.{entryOutcome}
 use Rattle.name.specs.declared.meta.RegionName.{RegionName}
 use Rattle.store_io.specs.Host.{outcomeRefusal}
-use Rattle.store_io.specs.Metadata.{replaced, valuesOr, entryValues}
+use Rattle.host_meta.specs.Metadata.{replaced, valuesOr, entryValues}
 use borrow.Author.Needs.{needs}
 use Rattle.store_io.proofs.entries.sio_check_entry.Statement.{statement}
 use Rattle.store_io.proofs.entries.sio_check_entry.Tie as tie

@@ -5,7 +5,7 @@ use Rattle.name.specs.Name.{paddedName}
 use Rattle.name.specs.declared.meta.RegionName.{RegionName}
 use Rattle.entry.specs.declared.meta2.RawEntry.{RawEntry}
 use Rattle.store_io.specs.Host.{outcomeRefusal}
-use Rattle.store_io.specs.Metadata.{replaced}
+use Rattle.host_meta.specs.Metadata.{replaced}
 use borrow.Author.Needs.{needs}
 use Rattle.store_io.proofs.entries.sio_entry_name.Statement.{statement}
 use Rattle.store_io.proofs.entries.sio_entry_name.Tie as tie

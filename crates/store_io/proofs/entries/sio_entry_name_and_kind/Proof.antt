@@ -4,7 +4,7 @@ use Rattle.region.specs.Error.{checkOutcome}
 use Rattle.entry.specs.Entry.{foundKind, foundKindName}
 use Rattle.name.specs.declared.meta.RegionName.{RegionName}
 use Rattle.store_io.specs.Host.{outcomeRefusal}
-use Rattle.store_io.specs.Metadata.{replaced, foundKindNumber}
+use Rattle.host_meta.specs.Metadata.{replaced, foundKindNumber}
 use borrow.Author.Needs.{needs}
 use Rattle.store_io.proofs.entries.sio_entry_name_and_kind.Statement.{statement}
 use Rattle.store_io.proofs.entries.sio_entry_name_and_kind.Tie as tie

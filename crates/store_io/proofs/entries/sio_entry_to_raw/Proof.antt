@@ -2,9 +2,8 @@
 use mathlib.Core.Path.{sym, ap, _∙_}
 use Rattle.entry.specs.Check.{entryOutcome}
 use Rattle.entry.specs.Entry.{entryBytes, toRaw}
-use Rattle.name.specs.declared.meta.RegionName.{RegionName}
 use Rattle.store_io.specs.Host.{outcomeRefusal}
-use Rattle.store_io.specs.Metadata.{restored}
+use Rattle.host_meta.specs.Metadata.{restored}
 use borrow.Author.Needs.{needs}
 use Rattle.store_io.proofs.entries.sio_entry_to_raw.Statement.{statement}
 use Rattle.store_io.proofs.entries.sio_entry_to_raw.Tie as tie

@@ -3,7 +3,7 @@ use mathlib.Core.Path.{sym, ap, _∙_}
 use Rattle.region.specs.Error.{checkOutcome}
 use Rattle.entry.specs.declared.meta2.RawEntry.{RawEntry}
 use Rattle.store_io.specs.Host.{outcomeRefusal}
-use Rattle.store_io.specs.Metadata.{replaced, rawValues}
+use Rattle.host_meta.specs.Metadata.{replaced, rawValues}
 use borrow.Author.Needs.{needs}
 use Rattle.store_io.proofs.entries.sio_read_entry.Statement.{statement}
 use Rattle.store_io.proofs.entries.sio_read_entry.Tie as tie

@@ -4,7 +4,7 @@ use Rattle.region.specs.Error.{checkOutcome}
 use Rattle.entry.specs.Entry.{reservedSpan}
 use Rattle.entry.specs.declared.meta2.RawEntry.{RawEntry}
 use Rattle.store_io.specs.Host.{outcomeRefusal}
-use Rattle.store_io.specs.Metadata.{replaced, limitsOf, spanValues}
+use Rattle.host_meta.specs.Metadata.{replaced, limitsOf, spanValues}
 use borrow.Author.Needs.{needs}
 use Rattle.store_io.proofs.entries.sio_reserved_span.Statement.{statement}
 use Rattle.store_io.proofs.entries.sio_reserved_span.Tie as tie

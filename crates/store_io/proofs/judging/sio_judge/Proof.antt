@@ -1,6 +1,6 @@
 -- `sio_judge` hands over the refusal or the judgement.
 use mathlib.Core.Path.{sym, ap, _∙_}
-use Rattle.store_io.specs.Judging.{judgedRefusal, judgementOr}
+use Rattle.host_slots.specs.Judging.{judgedRefusal, judgementOr}
 use borrow.Author.Needs.{needs}
 use Rattle.store_io.proofs.judging.sio_judge.Statement.{statement}
 use Rattle.store_io.proofs.judging.sio_judge.Tie as tie

@@ -3,7 +3,7 @@ use mathlib.Core.Path.{sym, ap, _∙_}
 use Rattle.region.specs.Error.{checkOutcome}
 use Rattle.name.specs.declared.meta.RegionName.{RegionName}
 use Rattle.store_io.specs.Host.{outcomeRefusal}
-use Rattle.store_io.specs.Metadata.{replaced}
+use Rattle.host_meta.specs.Metadata.{replaced}
 use borrow.Author.Needs.{needs}
 use Rattle.store_io.proofs.names.sio_region_name.Statement.{statement}
 use Rattle.store_io.proofs.names.sio_region_name.Tie as tie

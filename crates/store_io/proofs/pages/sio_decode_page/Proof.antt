@@ -2,7 +2,7 @@
 use mathlib.Core.Path.{sym, ap, _∙_}
 use Rattle.page.specs.Read.{pageOutcome}
 use Rattle.store_io.specs.Host.{outcomeRefusal}
-use Rattle.store_io.specs.Metadata.{valuesOr, pageValues}
+use Rattle.host_meta.specs.Metadata.{valuesOr, pageValues}
 use borrow.Author.Needs.{needs}
 use Rattle.store_io.proofs.pages.sio_decode_page.Statement.{statement}
 use Rattle.store_io.proofs.pages.sio_decode_page.Tie as tie

@@ -2,7 +2,7 @@
 use mathlib.Core.Path.{ap, _∙_}
 use Rattle.slot.specs.Status.{factsNumber}
 use Rattle.slot.specs.Read.{headerFacts}
-use Rattle.store_io.specs.Slots.{factsValues}
+use Rattle.host_slots.specs.Slots.{factsValues}
 use borrow.Author.Needs.{needs}
 use Rattle.store_io.proofs.slots.sio_header_facts.Statement.{statement}
 use Rattle.store_io.proofs.slots.sio_header_facts.Tie as tie

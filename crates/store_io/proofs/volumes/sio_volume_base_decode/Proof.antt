@@ -2,7 +2,7 @@
 use mathlib.Core.Path.{sym, ap, _∙_}
 use Rattle.volume_base.specs.Base.{baseOutcome}
 use Rattle.store_io.specs.Host.{outcomeRefusal}
-use Rattle.store_io.specs.Metadata.{valuesOr, baseValues}
+use Rattle.host_meta.specs.Metadata.{valuesOr, baseValues}
 use borrow.Author.Needs.{needs}
 use Rattle.store_io.proofs.volumes.sio_volume_base_decode.Statement.{statement}
 use Rattle.store_io.proofs.volumes.sio_volume_base_decode.Tie as tie

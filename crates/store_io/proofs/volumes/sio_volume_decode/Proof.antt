@@ -2,7 +2,7 @@
 use mathlib.Core.Path.{sym, ap, _∙_}
 use Rattle.volume.specs.Volume.{volumeOutcome}
 use Rattle.store_io.specs.Host.{outcomeRefusal}
-use Rattle.store_io.specs.Metadata.{valuesOr, volumeValues}
+use Rattle.host_meta.specs.Metadata.{valuesOr, volumeValues}
 use borrow.Author.Needs.{needs}
 use Rattle.store_io.proofs.volumes.sio_volume_decode.Statement.{statement}
 use Rattle.store_io.proofs.volumes.sio_volume_decode.Tie as tie

@@ -3,7 +3,7 @@ use mathlib.Core.Path.{ap, _∙_}
 use denote.Ref.{now}
 use Rattle.pair.specs.Pair.{winnerInfo}
 use Rattle.winner.specs.Winner.{readPair}
-use Rattle.store_io.specs.Winners.{winnerIndex, winnerStart}
+use Rattle.host_slots.specs.Winners.{winnerIndex, winnerStart}
 use Rattle.store_io.proofs.WinnerPlace.{part-size}
 use borrow.Author.Needs.{needs}
 use Rattle.store_io.proofs.winners.sio_winner_payload.Statement.{statement}

@@ -1,0 +1,4 @@
+pub mod Slots
+pub mod Pairs
+pub mod Judging
+pub mod Winners
