@@ -33,7 +33,7 @@ use Rattle.region.specs.Block.{clamp, blockSize, entriesPerPage}
 use Rattle.volume_base.specs.Base.{baseCheck, decodeBase, baseBytes}
 use Rattle.volume.specs.Volume.{tailCheck, decodeVolume, tailBytes, volumeBytes}
 use Rattle.page.specs.Read.{decodePage}
-use Rattle.page.specs.Write.{headerBytes as pageHeaderBytes}
+use Rattle.page_write.specs.Write.{headerBytes as pageHeaderBytes}
 use Rattle.cut.specs.Store.{Every, Bytes, Decoder, Volume, Page, accepts, cleanMark, Slot, Pair, slotAt, status, report, parts, storeMark, Typed, SoundSlot, Beside, SoundPair, Sound}
 use Rattle.cut.specs.Cut.{Write, store, size, old, new, cut, CutPoint, CorrectWrite, standsWhole, whole, headerPasses, payloadIn, Accident, handed, Survives}
 use Rattle.cut.proofs.ByteLaws.{bytes-tested, append-bytes, zero-bytes, number-bytes, slot-bytes}

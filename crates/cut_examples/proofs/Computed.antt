@@ -22,7 +22,7 @@ use Rattle.judge.specs.Frames.{pairFrom, partInRange, pairInRange, refusal, jud
 use Rattle.judge.specs.Row.{framesOf, markOf}
 use Rattle.judge.specs.declared.SlotRead.{SlotRead}
 use Rattle.judge.specs.declared.frames.Judged.{Judged}
-use Rattle.page.specs.Write.{headerBytes as pageHeaderBytes}
+use Rattle.page_write.specs.Write.{headerBytes as pageHeaderBytes}
 use Rattle.volume_base.specs.Base.{baseBytes}
 use Rattle.volume.specs.Volume.{tailBytes, volumeBytes}
 use Rattle.cut.specs.Store.{Volume, Page, accepts, cleanMark as recordMark, filled}

@@ -1,4 +1,1 @@
-pub mod EntryLaws
 pub mod ReadLaws
-pub mod WriteLaws
-pub mod PageLaws

@@ -1,2 +1,2 @@
-// Layer 3: table pages.
+// Layer 3: table pages as they are read.
 pub mod meta2;

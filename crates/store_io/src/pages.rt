@@ -7,7 +7,7 @@ use region::meta::MetaEncoded;
 ghost use mathlib.Core.Path.{_≡_};
 ghost use lib.ListN.{length};
 ghost use Rattle.page.specs.Read.{decodePage};
-ghost use Rattle.page.specs.Write.{encodePage, encodedPage};
+ghost use Rattle.page_write.specs.Write.{encodePage, encodedPage};
 ghost use Rattle.store_io.specs.Host.{outcomeRefusal, outcomeOr};
 ghost use Rattle.host_meta.specs.Metadata.{valuesOr, headerOf, pageValues};
 
@@ -50,7 +50,7 @@ pub extern "C" fn sio_encode_page(
         next_seq,
         count,
     };
-    match page::meta2::encode_page(bytes, header, entries) {
+    match page_write::encode_page(bytes, header, entries) {
         MetaEncoded::Refused(error) => error.number() as u32,
         MetaEncoded::Length(len) => {
             *written = len;

@@ -2,15 +2,17 @@
 use mathlib.Core.Path.{_≡_, sym, ap, _∙_}
 use mathlib.Core.Bool.{true, false}
 use mathlib.Core.List.{List}
-use Prim.Native.Nat.{ℕ, _≤_}
+use Prim.Native.Nat.{ℕ, _/_, _≤_}
+use native.Mathlib.Omega.{arith}
 use borrow.Author.Tests.{lt-ltb, le-ltb, not-true, not-false}
 use lib.Dec.{ltb}
-use lib.ListN.{length, take, drop}
+use lib.ListN.{length, take, drop, length-drop}
 use Rattle.codec.proofs.CursorLaws.{part-rest}
 use Rattle.codec.specs.Bytes.{le16, le32, allZero}
 use Rattle.codec.specs.Outcome.{given, andThen}
 use Rattle.region.specs.Error.{checkOutcome}
 use Rattle.region.proofs.OutcomeLaws.{tests}
+use Rattle.page_entries.specs.Entries.{entriesCheck}
 use Rattle.page.specs.Read.{header, page, decodePage}
 use Rattle.page.specs.declared.meta2.PageHeader.{PageHeader}
 use Rattle.page.proofs.ReadLaws.{header-is, header-none}
@@ -54,7 +56,10 @@ unfolding decodePage
 tested c =
     let zeros = c .before .before .before .before .before .before .before in
     let read = zeros .before .before .before in
-    search (tests, there read, zeros-stand zeros, index-is read, count-is read, next-is read, sym (rw part-rest at (c .check-entries .ensures)))
+    let behind : List ℕ = drop 24 (s read) in
+    let count : length behind / 96 ≡ h read .count = omega (arith, length-drop 24 (s read), c .before .before .if5 .left) in
+    let entries = rw part-rest at (c .check-entries .ensures) ∙ ap (λ (n : ℕ). entriesCheck (h read .«next_seq») n behind) count in
+    search (tests, there read, zeros-stand zeros, index-is read, count-is read, next-is read, sym entries)
 
 read-header-requires : tie.Need-read-header-requires
 read-header-requires c κs = search needs
@@ -132,9 +137,6 @@ part-check-entries-start c = search needs
 part-check-entries-end : tie.Need-part-check-entries-end
 part-check-entries-end c = search needs
 
-cast-check-entries : tie.Need-cast-check-entries
-cast-check-entries c = search needs
-
 check-entries-requires : tie.Need-check-entries-requires
 check-entries-requires c κs = search needs
 
@@ -174,7 +176,6 @@ decode-page-spec =
     sub-check-entries
     part-check-entries-start
     part-check-entries-end
-    cast-check-entries
     check-entries-requires
     enum-known-error
     enum-told-2
