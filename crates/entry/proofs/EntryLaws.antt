@@ -5,39 +5,36 @@ use mathlib.Core.List.{List, [], _++_, append-assoc}
 use Prim.Native.Nat.{ℕ, _+_, _^_, _≤_, _<_}
 use native.Mathlib.Omega.{arith}
 use borrow.Author.Tests.{le-leb, lt-leb}
-use lib.ListN.{length, getD, take, drop, length-append}
+use lib.ListN.{length, getD, take, drop}
 use lib.Seq.{take-at}
 use Rattle.codec.specs.Bytes.{le, le16, le32, le64, bytes, bytes16, bytes32, bytes64}
 use Rattle.codec.specs.Outcome.{Outcome, given, refusal, isGiven}
-use Rattle.codec.proofs.CursorLaws.{length-bytes, le-byte, le-bytes, le-shift}
-use Rattle.region.specs.Error.{checkOutcome, held}
+use Rattle.codec.proofs.CursorLaws.{le-byte, le-bytes, le-shift}
+use Rattle.region.specs.Error.{checkOutcome}
 use Rattle.region.specs.Kind.{kindOf}
 use Rattle.region.specs.declared.meta.Check.{Check}
 use Rattle.region.specs.declared.meta.MetaError.{MetaError}
-use Rattle.region.proofs.FitLaws.{held-there}
 use Rattle.region.proofs.OutcomeLaws.{then-given}
 use Rattle.name.specs.Name.{noName, paddedCheck}
 use Rattle.name.specs.declared.meta.RegionName.{RegionName}
 use Rattle.name.proofs.NameLaws.{padded-bytes, padded-none}
+use Rattle.entry_layout.specs.Layout.{rawFront, rawPlaces, frontBytes, placesBytes, partsBytes}
+use Rattle.entry_layout.specs.declared.EntryFront.{EntryFront}
+use Rattle.entry_layout.specs.declared.EntryPlaces.{EntryPlaces}
+use Rattle.entry_layout.proofs.LayoutLaws.{length-parts}
 use Rattle.entry.specs.declared.meta2.RawEntry.{RawEntry}
-use Rattle.entry.specs.declared.meta2.EntryFront.{EntryFront}
-use Rattle.entry.specs.declared.meta2.EntryPlaces.{EntryPlaces}
 use Rattle.entry.specs.declared.meta2.Entry2.{Entry2}
 use Rattle.entry.specs.declared.meta2.EntryLimits.{EntryLimits}
 use Rattle.entry.specs.declared.meta2.FoundKind.{FoundKind}
-use Rattle.entry.specs.Entry.{noEntry, entryRead, rawEntry, rawFront, rawPlaces, rawEntryOr, frontBytes, placesBytes, entryBytes, foundKind, foundKindName, toRaw}
+use Rattle.entry.specs.Entry.{noEntry, joined, frontOf, placesOf, rawEntry, entryRead, rawEntryOr, entryBytes, foundKind, foundKindName, toRaw}
 use Rattle.entry.specs.Check.{fieldsCheck, accepted, nameBeside, checkEntry, checkedName}
 use Rattle.entry.proofs.CheckLaws.{fields-passed, accepted-kind}
 
 -- ---- an entry that is written
 
-pub length-front : (e : RawEntry) → length (e .name) ≡ 24 → length (frontBytes e) ≡ 40
-unfolding frontBytes
-length-front e name = simp (length-append, length-bytes, name)
-
 pub length-entry : (e : RawEntry) → length (e .name) ≡ 24 → length (entryBytes e) ≡ 96
-unfolding entryBytes placesBytes
-length-entry e name = simp (length-append, length-bytes, length-front e name)
+unfolding entryBytes
+length-entry e name = length-parts (frontOf e) (e .name) name (placesOf e)
 
 -- ---- an entry that is read
 
@@ -49,74 +46,6 @@ unfolding entryRead rawEntryOr
 entry-cut s end short within refused =
     let past : length s < 96 = omega arith in
     (ap checkOutcome (refused .0) ∙ simp (lt-leb _ _ past), refused .1 ∙ simp (lt-leb _ _ past))
-
-pub front-there : (s : List ℕ) {seq kind state flags compat-flags tag extent-count reserved : ℕ}
-    → 40 ≤ length s
-    → seq ≡ le32 s 0
-    → kind ≡ getD s 4 0
-    → state ≡ getD s 5 0
-    → flags ≡ getD s 6 0
-    → compat-flags ≡ getD s 7 0
-    → tag ≡ le32 s 32
-    → extent-count ≡ le16 s 36
-    → reserved ≡ le16 s 38
-    → given
-    (record {
-      seq = seq;
-      kind = kind;
-      state = state;
-      flags = flags;
-      «compat_flags» = compat-flags;
-      tag = tag;
-      «extent_count» = extent-count;
-      reserved = reserved;
-    })
-    ≡ held 40 s (rawFront s)
-front-there s long seq kind state flags compat tag extents reserved = cc (held-there 40 s (rawFront s) long)
-
-pub places-there : (s : List ℕ) {header-a header-b data-size capacity span-start span-end footprint-seq : ℕ}
-    → 96 ≤ length s
-    → header-a ≡ le64 s 40
-    → header-b ≡ le64 s 48
-    → data-size ≡ le64 s 56
-    → capacity ≡ le64 s 64
-    → span-start ≡ le64 s 72
-    → span-end ≡ le64 s 80
-    → footprint-seq ≡ le64 s 88
-    → given
-    (record {
-      «header_a» = header-a;
-      «header_b» = header-b;
-      «data_size» = data-size;
-      capacity = capacity;
-      «span_start» = span-start;
-      «span_end» = span-end;
-      «footprint_seq» = footprint-seq;
-    })
-    ≡ held 96 s (rawPlaces s)
-places-there s long a b size capacity start end footprint = cc (held-there 96 s (rawPlaces s) long)
-
--- The entry of its parts.
-abbrev joined : EntryFront → List ℕ → EntryPlaces → RawEntry
-joined front name places =
-    record {
-      seq = front .seq;
-      kind = front .kind;
-      state = front .state;
-      flags = front .flags;
-      «compat_flags» = front .«compat_flags»;
-      name = name;
-      tag = front .tag;
-      «extent_count» = front .«extent_count»;
-      reserved = front .reserved;
-      «header_a» = places .«header_a»;
-      «header_b» = places .«header_b»;
-      «data_size» = places .«data_size»;
-      capacity = places .capacity;
-      «span_start» = places .«span_start»;
-      «span_end» = places .«span_end»;
-      «footprint_seq» = places .«footprint_seq»;
-    }
 
 pub entry-there : (s : List ℕ) {front : EntryFront} {name : List ℕ} {places : EntryPlaces}
     → 96 ≤ length s
@@ -206,7 +135,7 @@ regroup : (a n b1 b2 b3 b4 b5 b6 b7 b8 b9 b10 : List ℕ)
 regroup a n b1 b2 b3 b4 b5 b6 b7 b8 b9 b10 = simp append-assoc
 
 parts : (e : RawEntry) → entryBytes e ≡ front e ++ (e .name ++ back e)
-unfolding entryBytes frontBytes placesBytes
+unfolding entryBytes partsBytes frontBytes placesBytes
 parts e =
     regroup (front e) (e .name) (bytes32 (e .tag)) (bytes16 (e .«extent_count»)) (bytes16 0) (bytes64 (e .«header_a»)) (bytes64 (e .«header_b»))
     (bytes64 (e .«data_size»)) (bytes64 (e .capacity)) (bytes64 (e .«span_start»)) (bytes64 (e .«span_end»)) (bytes64 (e .«footprint_seq»))

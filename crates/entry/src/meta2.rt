@@ -19,13 +19,7 @@
 // | 80 | 8 | span_end | whole blocks, in the file |
 // | 88 | 8 | footprint_seq | 1 to the page's number |
 use codec::codec::ReadBytes;
-use codec::codec::ReadU8;
-use codec::codec::ReadU16;
-use codec::codec::ReadU32;
-use codec::codec::ReadU64;
 use codec::codec::Reader;
-use codec::codec::Writer;
-use codec::codec::Written;
 use entry_check::meta2::ReservedSpan;
 use entry_check::meta2::check_content;
 use entry_check::meta2::check_footprint;
@@ -35,6 +29,13 @@ use entry_check::meta2::check_sizes;
 use entry_check::meta2::check_span;
 use entry_check::meta2::check_state;
 use entry_check::meta2::widened_span;
+use entry_layout::EntryFront;
+use entry_layout::EntryFrontRead;
+use entry_layout::EntryPlaces;
+use entry_layout::EntryPlacesRead;
+use entry_layout::read_front;
+use entry_layout::read_places;
+use entry_layout::write_parts;
 use name::meta::RegionName;
 use region::meta::Check;
 use region::meta::KindRead;
@@ -42,11 +43,10 @@ use region::meta::MetaEncoded;
 use region::meta::MetaError;
 use region::meta::RegionKind;
 ghost use mathlib.Core.Path.{_≡_};
-ghost use lib.ListN.{length};
 ghost use Rattle.codec.specs.Bytes.{putWhole};
-ghost use Rattle.region.specs.Error.{checkOutcome, encodedOutcome, fitted, held};
+ghost use Rattle.region.specs.Error.{checkOutcome, encodedOutcome, fitted};
 ghost use Rattle.name.specs.Name.{paddedName};
-ghost use Rattle.entry.specs.Entry.{rawFront, frontOutcome, rawPlaces, placesOutcome, noEntry, entryRead, rawEntryOr, frontBytes, placesBytes, entryBytes, foundName, foundKind, foundKindName, reservedSpan, toRaw};
+ghost use Rattle.entry.specs.Entry.{noEntry, entryRead, rawEntryOr, entryBytes, foundName, foundKind, foundKindName, reservedSpan, toRaw};
 ghost use Rattle.entry.specs.Check.{fieldsCheck, accepted, entryOutcome, checkEntry, checkedName};
 
 // One table entry as stored: every field, before the per-entry checks (an entry that fails them makes its region unavailable, and its
@@ -84,41 +84,6 @@ pub struct RawEntry {
     pub span_end: u64,
     // `meta_seq` of the page write that last changed the footprint.
     pub footprint_seq: u64,
-}
-
-// The numbers of an entry in front of its places.
-pub struct EntryFront {
-    pub seq: u32,
-    pub kind: u8,
-    pub state: u8,
-    pub flags: u8,
-    pub compat_flags: u8,
-    pub tag: u32,
-    pub extent_count: u16,
-    pub reserved: u16,
-}
-
-// They, or that there are fewer bytes.
-pub enum EntryFrontRead {
-    Fields(EntryFront),
-    Truncated,
-}
-
-// Where an entry's parts lie, from 40 on.
-pub struct EntryPlaces {
-    pub header_a: u64,
-    pub header_b: u64,
-    pub data_size: u64,
-    pub capacity: u64,
-    pub span_start: u64,
-    pub span_end: u64,
-    pub footprint_seq: u64,
-}
-
-// They, or that there are fewer bytes.
-pub enum EntryPlacesRead {
-    Fields(EntryPlaces),
-    Truncated,
 }
 
 // An enum can hold no array: the entry stands beside the answer, zeros at a refusal.
@@ -234,12 +199,27 @@ impl RawEntry {
         ensures { λ r. ⌜ encodedOutcome r ≡ fitted 96 (now (out .entry)) ⌝ }
         ensures { λ _. ⌜ now (out .exit) ≡ putWhole (now (out .entry)) 0 (entryBytes self) ⌝ }
     {
-        if out.len() < 96 {
-            return MetaEncoded::Refused(MetaError::Length);
-        }
-        write_front(&mut out[..40], self);
-        write_places(&mut out[40..96], self);
-        MetaEncoded::Length(96)
+        let name = self.name;
+        let front = EntryFront {
+            seq: self.seq,
+            kind: self.kind,
+            state: self.state,
+            flags: self.flags,
+            compat_flags: self.compat_flags,
+            tag: self.tag,
+            extent_count: self.extent_count,
+            reserved: self.reserved,
+        };
+        let places = EntryPlaces {
+            header_a: self.header_a,
+            header_b: self.header_b,
+            data_size: self.data_size,
+            capacity: self.capacity,
+            span_start: self.span_start,
+            span_end: self.span_end,
+            footprint_seq: self.footprint_seq,
+        };
+        write_parts(out, front, name, places)
     }
 
     // The per-entry checks. An entry that fails them makes its region unavailable; the page itself stands.
@@ -374,150 +354,6 @@ fn truncated() -> RawEntryRead
             footprint_seq: 0,
         },
     }
-}
-
-// The numbers in front of the places. The name stands between them, at 8.
-fn read_front(bytes: &[u8]) -> EntryFrontRead
-    ensures { λ r. ⌜ frontOutcome r ≡ held 40 (now (bytes .entry)) (rawFront (now (bytes .entry))) ⌝ }
-{
-    let r = Reader::new();
-    let ReadU32::Value(seq, r) = r.u32(bytes) else {
-        return EntryFrontRead::Truncated;
-    };
-    let ReadU8::Value(kind, r) = r.u8(bytes) else {
-        return EntryFrontRead::Truncated;
-    };
-    let ReadU8::Value(state, r) = r.u8(bytes) else {
-        return EntryFrontRead::Truncated;
-    };
-    let ReadU8::Value(flags, r) = r.u8(bytes) else {
-        return EntryFrontRead::Truncated;
-    };
-    let ReadU8::Value(compat_flags, _) = r.u8(bytes) else {
-        return EntryFrontRead::Truncated;
-    };
-    let r = Reader { pos: 32 };
-    let ReadU32::Value(tag, r) = r.u32(bytes) else {
-        return EntryFrontRead::Truncated;
-    };
-    let ReadU16::Value(extent_count, r) = r.u16(bytes) else {
-        return EntryFrontRead::Truncated;
-    };
-    let ReadU16::Value(reserved, _) = r.u16(bytes) else {
-        return EntryFrontRead::Truncated;
-    };
-    EntryFrontRead::Fields(EntryFront {
-        seq,
-        kind,
-        state,
-        flags,
-        compat_flags,
-        tag,
-        extent_count,
-        reserved,
-    })
-}
-
-// The places, from 40 on.
-fn read_places(bytes: &[u8]) -> EntryPlacesRead
-    ensures { λ r. ⌜ placesOutcome r ≡ held 96 (now (bytes .entry)) (rawPlaces (now (bytes .entry))) ⌝ }
-{
-    let r = Reader { pos: 40 };
-    let ReadU64::Value(header_a, r) = r.u64(bytes) else {
-        return EntryPlacesRead::Truncated;
-    };
-    let ReadU64::Value(header_b, r) = r.u64(bytes) else {
-        return EntryPlacesRead::Truncated;
-    };
-    let ReadU64::Value(data_size, r) = r.u64(bytes) else {
-        return EntryPlacesRead::Truncated;
-    };
-    let ReadU64::Value(capacity, r) = r.u64(bytes) else {
-        return EntryPlacesRead::Truncated;
-    };
-    let ReadU64::Value(span_start, r) = r.u64(bytes) else {
-        return EntryPlacesRead::Truncated;
-    };
-    let ReadU64::Value(span_end, r) = r.u64(bytes) else {
-        return EntryPlacesRead::Truncated;
-    };
-    let ReadU64::Value(footprint_seq, _) = r.u64(bytes) else {
-        return EntryPlacesRead::Truncated;
-    };
-    EntryPlacesRead::Fields(EntryPlaces {
-        header_a,
-        header_b,
-        data_size,
-        capacity,
-        span_start,
-        span_end,
-        footprint_seq,
-    })
-}
-
-// Writes the fields in front of the places, in the order of the layout.
-fn write_front(out: &mut [u8], e: RawEntry)
-    requires { ⌜ length (now out) ≡ 40 ⌝ }
-    ensures { λ _. ⌜ now (out .exit) ≡ frontBytes e ⌝ }
-{
-    let name = e.name;
-    let w = Writer::new();
-    let Written::Next(w) = w.u32(out, e.seq) else {
-        return;
-    };
-    let Written::Next(w) = w.u8(out, e.kind) else {
-        return;
-    };
-    let Written::Next(w) = w.u8(out, e.state) else {
-        return;
-    };
-    let Written::Next(w) = w.u8(out, e.flags) else {
-        return;
-    };
-    let Written::Next(w) = w.u8(out, e.compat_flags) else {
-        return;
-    };
-    let Written::Next(w) = w.bytes(out, &name) else {
-        return;
-    };
-    let Written::Next(w) = w.u32(out, e.tag) else {
-        return;
-    };
-    let Written::Next(w) = w.u16(out, e.extent_count) else {
-        return;
-    };
-    let Written::Next(_) = w.u16(out, 0) else {
-        return;
-    };
-}
-
-// Writes the places, in the order of the layout.
-fn write_places(out: &mut [u8], e: RawEntry)
-    requires { ⌜ length (now out) ≡ 56 ⌝ }
-    ensures { λ _. ⌜ now (out .exit) ≡ placesBytes e ⌝ }
-{
-    let w = Writer::new();
-    let Written::Next(w) = w.u64(out, e.header_a) else {
-        return;
-    };
-    let Written::Next(w) = w.u64(out, e.header_b) else {
-        return;
-    };
-    let Written::Next(w) = w.u64(out, e.data_size) else {
-        return;
-    };
-    let Written::Next(w) = w.u64(out, e.capacity) else {
-        return;
-    };
-    let Written::Next(w) = w.u64(out, e.span_start) else {
-        return;
-    };
-    let Written::Next(w) = w.u64(out, e.span_end) else {
-        return;
-    };
-    let Written::Next(_) = w.u64(out, e.footprint_seq) else {
-        return;
-    };
 }
 
 // The checks in their order; `name` is what the name's own check answered.

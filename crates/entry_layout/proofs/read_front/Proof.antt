@@ -8,10 +8,10 @@ use Rattle.codec.specs.Bytes.{le}
 use Rattle.codec.specs.Cursor.{u8Answer, u16Answer, u32Answer}
 use Rattle.codec.proofs.CursorLaws.{le-byte, answer-done, answer-refused}
 use Rattle.region.proofs.FitLaws.{Done, held-cut}
-use Rattle.entry.proofs.EntryLaws.{front-there}
+use Rattle.entry_layout.proofs.LayoutLaws.{front-there}
 use borrow.Author.Needs.{needs}
-use Rattle.entry.proofs.meta2.read_front.Statement.{statement}
-use Rattle.entry.proofs.meta2.read_front.Tie as tie
+use Rattle.entry_layout.proofs.read_front.Statement.{statement}
+use Rattle.entry_layout.proofs.read_front.Tie as tie
 
 -- The bytes, and the read, at each place of the chain.
 abbrev bytes-0 : tie.After-known-told → List ℕ

@@ -10,36 +10,39 @@ use Rattle.codec.specs.Bytes.{bytes, bytes16, bytes32}
 use Rattle.codec.specs.Cursor.{writtenAnswer}
 use Rattle.codec.proofs.CursorLaws.{Row, row-none, row-length, length-bytes, put-all}
 use Rattle.region.proofs.FitLaws.{Next, row-next}
-use Rattle.entry.specs.Entry.{frontBytes}
+use Rattle.entry_layout.specs.Layout.{frontBytes}
 use borrow.Author.Needs.{needs}
-use Rattle.entry.proofs.meta2.write_front.Statement.{statement}
-use Rattle.entry.proofs.meta2.write_front.Tie as tie
+use Rattle.entry_layout.proofs.write_front.Statement.{statement}
+use Rattle.entry_layout.proofs.write_front.Tie as tie
 
 -- The bytes of each field behind those of the fields before it: the first n bytes of the part.
 module _ (c : tie.Start) where
   abbrev first-4 : List ℕ
-  first-4 = bytes32 (c .args .e .seq)
+  first-4 = bytes32 (c .args .front .seq)
 
   abbrev first-5 : List ℕ
-  first-5 = first-4 ++ bytes 1 (c .args .e .kind)
+  first-5 = first-4 ++ bytes 1 (c .args .front .kind)
 
   abbrev first-6 : List ℕ
-  first-6 = first-5 ++ bytes 1 (c .args .e .state)
+  first-6 = first-5 ++ bytes 1 (c .args .front .state)
 
   abbrev first-7 : List ℕ
-  first-7 = first-6 ++ bytes 1 (c .args .e .flags)
+  first-7 = first-6 ++ bytes 1 (c .args .front .flags)
 
   abbrev first-8 : List ℕ
-  first-8 = first-7 ++ bytes 1 (c .args .e .«compat_flags»)
+  first-8 = first-7 ++ bytes 1 (c .args .front .«compat_flags»)
+
+  abbrev name : List ℕ
+  name = c .args .t3
 
   abbrev first-32 : List ℕ
-  first-32 = first-8 ++ c .args .e .name
+  first-32 = first-8 ++ name
 
   abbrev first-36 : List ℕ
-  first-36 = first-32 ++ bytes32 (c .args .e .tag)
+  first-36 = first-32 ++ bytes32 (c .args .front .tag)
 
   abbrev first-38 : List ℕ
-  first-38 = first-36 ++ bytes16 (c .args .e .«extent_count»)
+  first-38 = first-36 ++ bytes16 (c .args .front .«extent_count»)
 
   abbrev first-40 : List ℕ
   first-40 = first-38 ++ bytes16 0
@@ -47,13 +50,13 @@ module _ (c : tie.Start) where
   abbrev old : List ℕ
   old = c .args .out .now
 
-  name-length : length (c .args .e .name) ≡ 24
+  name-length : length name ≡ 24
   name-length = search needs
 
 -- ---- each write of the row: what it leaves are the first n bytes
 
 abbrev start-4 : tie.After-u32 → tie.Start
-start-4 c = c .before .before .before .before .before
+start-4 c = c .before .before .before .before
 
 write-4 : (c : tie.After-u32) → Next (old (start-4 c)) (c .u32 .last .1 .0) (writtenAnswer (c .u32 .result)) (first-4 (start-4 c)) 4
 write-4 c = row-next (start-4 c .pre) (row-none (c .before .before .new .ensures)) 4 _ (lit≤ tt) (length-bytes 4 _) (c .u32 .ensures .0) (c .u32 .ensures .1)

@@ -8,10 +8,10 @@ use Rattle.codec.specs.Bytes.{le}
 use Rattle.codec.specs.Cursor.{u64Answer}
 use Rattle.codec.proofs.CursorLaws.{answer-done, answer-refused}
 use Rattle.region.proofs.FitLaws.{Done, held-cut}
-use Rattle.entry.proofs.EntryLaws.{places-there}
+use Rattle.entry_layout.proofs.LayoutLaws.{places-there}
 use borrow.Author.Needs.{needs}
-use Rattle.entry.proofs.meta2.read_places.Statement.{statement}
-use Rattle.entry.proofs.meta2.read_places.Tie as tie
+use Rattle.entry_layout.proofs.read_places.Statement.{statement}
+use Rattle.entry_layout.proofs.read_places.Tie as tie
 
 -- The bytes, and the read, at each place of the chain.
 abbrev bytes-40 : tie.After-known-told → List ℕ

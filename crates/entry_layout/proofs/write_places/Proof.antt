@@ -9,33 +9,33 @@ use Rattle.codec.specs.Bytes.{bytes64}
 use Rattle.codec.specs.Cursor.{writtenAnswer}
 use Rattle.codec.proofs.CursorLaws.{Row, row-none, row-length, length-bytes, put-all}
 use Rattle.region.proofs.FitLaws.{Next, row-next}
-use Rattle.entry.specs.Entry.{placesBytes}
+use Rattle.entry_layout.specs.Layout.{placesBytes}
 use borrow.Author.Needs.{needs}
-use Rattle.entry.proofs.meta2.write_places.Statement.{statement}
-use Rattle.entry.proofs.meta2.write_places.Tie as tie
+use Rattle.entry_layout.proofs.write_places.Statement.{statement}
+use Rattle.entry_layout.proofs.write_places.Tie as tie
 
 -- The bytes of each field behind those of the fields before it: the first n bytes of the part.
 module _ (c : tie.Start) where
   abbrev first-8 : List ℕ
-  first-8 = bytes64 (c .args .e .«header_a»)
+  first-8 = bytes64 (c .args .places .«header_a»)
 
   abbrev first-16 : List ℕ
-  first-16 = first-8 ++ bytes64 (c .args .e .«header_b»)
+  first-16 = first-8 ++ bytes64 (c .args .places .«header_b»)
 
   abbrev first-24 : List ℕ
-  first-24 = first-16 ++ bytes64 (c .args .e .«data_size»)
+  first-24 = first-16 ++ bytes64 (c .args .places .«data_size»)
 
   abbrev first-32 : List ℕ
-  first-32 = first-24 ++ bytes64 (c .args .e .capacity)
+  first-32 = first-24 ++ bytes64 (c .args .places .capacity)
 
   abbrev first-40 : List ℕ
-  first-40 = first-32 ++ bytes64 (c .args .e .«span_start»)
+  first-40 = first-32 ++ bytes64 (c .args .places .«span_start»)
 
   abbrev first-48 : List ℕ
-  first-48 = first-40 ++ bytes64 (c .args .e .«span_end»)
+  first-48 = first-40 ++ bytes64 (c .args .places .«span_end»)
 
   abbrev first-56 : List ℕ
-  first-56 = first-48 ++ bytes64 (c .args .e .«footprint_seq»)
+  first-56 = first-48 ++ bytes64 (c .args .places .«footprint_seq»)
 
   abbrev old : List ℕ
   old = c .args .out .now
