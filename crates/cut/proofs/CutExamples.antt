@@ -31,7 +31,8 @@ use Rattle.verdict.specs.Numbers.{slots, highest}
 use Rattle.judge.specs.Frames.{verdictWidth}
 use Rattle.region.specs.Block.{clamp, blockSize, entriesPerPage}
 use Rattle.volume_base.specs.Base.{baseCheck, decodeBase, baseBytes}
-use Rattle.volume.specs.Volume.{tailCheck, decodeVolume, tailBytes, volumeBytes}
+use Rattle.volume_tail.specs.Tail.{tailBytes}
+use Rattle.volume.specs.Volume.{tailCheck, decodeVolume, volumeBytes}
 use Rattle.page.specs.Read.{decodePage}
 use Rattle.page_write.specs.Write.{headerBytes as pageHeaderBytes}
 use Rattle.cut.specs.Store.{Every, Bytes, Decoder, Volume, Page, accepts, cleanMark, Slot, Pair, slotAt, status, report, parts, storeMark, Typed, SoundSlot, Beside, SoundPair, Sound}

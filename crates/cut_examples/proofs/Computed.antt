@@ -24,7 +24,8 @@ use Rattle.judge.specs.declared.SlotRead.{SlotRead}
 use Rattle.judge.specs.declared.frames.Judged.{Judged}
 use Rattle.page_write.specs.Write.{headerBytes as pageHeaderBytes}
 use Rattle.volume_base.specs.Base.{baseBytes}
-use Rattle.volume.specs.Volume.{tailBytes, volumeBytes}
+use Rattle.volume_tail.specs.Tail.{tailBytes}
+use Rattle.volume.specs.Volume.{volumeBytes}
 use Rattle.cut.specs.Store.{Volume, Page, accepts, cleanMark as recordMark, filled}
 use Rattle.cut.specs.Cut.{cut, left, withSlot, handed, standsWhole}
 use Rattle.cut.proofs.CutExamples.{volumeRecord, pageRecord, volumeFields, newerFields, secondFields, volumePair, firstPage, secondPage, pageWrite, volumeWrite, summedSlot, summed-is, none-refused, newer-sum, volume-sum, volume-handed, oldPage, newPage, blankBytes, markedBytes, old-page, new-page, new-volume, page-accepted, volume-accepted}

@@ -4,59 +4,19 @@ use mathlib.Core.Bool.{not}
 use mathlib.Core.List.{List}
 use Prim.Native.Nat.{ℕ, _*_, _^_, _≤_, _<_}
 use native.Mathlib.Omega.{arith}
-use borrow.Author.Tests.{eq-eqb, le-leb, lt-leb, eqb-true, eqb-false, ltb-false, leb-false, not-false}
+use borrow.Author.Tests.{eq-eqb, eqb-true, eqb-false, ltb-false, leb-false, not-false}
 use lib.Dec.{leb, ltb, eqb}
-use lib.ListN.{length, getD, take}
-use Rattle.codec.specs.Bytes.{le16, le32, le64}
+use lib.ListN.{length, take}
+use Rattle.codec.specs.Bytes.{le32, le64}
 use Rattle.codec.specs.Outcome.{Outcome, given, refusal, andThen}
 use Rattle.region.specs.Block.{entriesPerPage}
 use Rattle.region.proofs.OutcomeLaws.{passed}
 use Rattle.volume_base.specs.Base.{decodeBase}
 use Rattle.volume_base.specs.declared.meta.VolumeMeta.{VolumeMeta}
-use Rattle.volume.specs.Volume.{rawTail, tailRead, record2, tailCheck, decodeVolume}
+use Rattle.volume_tail.specs.Tail.{rawTail}
+use Rattle.volume_tail.specs.declared.RawTail.{RawTail}
+use Rattle.volume.specs.Volume.{record2, tailCheck, decodeVolume}
 use Rattle.volume.specs.declared.meta2.VolumeMeta2.{VolumeMeta2}
-use Rattle.volume.specs.declared.meta2.RawTail.{RawTail}
-use Rattle.volume.specs.declared.meta2.RawTailRead.{RawTailRead}
-
--- ---- the fields as they are stored
-
-tail-read : (s : List ℕ) → 64 ≤ length s → tailRead s ≡ RawTailRead.Fields (rawTail s)
-unfolding tailRead
-tail-read s long = simp (le-leb _ _ long)
-
--- Bytes that end before an end within the record.
-pub tail-cut : (s : List ℕ) (end : ℕ) → length s < end → end ≤ 64 → tailRead s ≡ RawTailRead.Truncated
-unfolding tailRead
-tail-cut s end short within = let past : length s < 64 = omega arith in simp (lt-leb _ _ past)
-
-pub tail-there : (s : List ℕ) {pages entries clean reserved0 flags reserved1 : ℕ}
-    → 64 ≤ length s
-    → pages ≡ le32 s 48
-    → entries ≡ le16 s 52
-    → clean ≡ getD s 54 0
-    → reserved0 ≡ getD s 55 0
-    → flags ≡ le32 s 56
-    → reserved1 ≡ le32 s 60
-    → RawTailRead.Fields
-    (record {
-      «table_pages» = pages;
-      «entries_per_page» = entries;
-      «clean_close» = clean;
-      reserved0 = reserved0;
-      flags = flags;
-      reserved1 = reserved1;
-    })
-    ≡ tailRead s
-tail-there s long pages entries clean zero0 flags zero1 = cc (tail-read s long)
-
-pub tail-is : (s : List ℕ) {raw : RawTail} → length s ≡ 64 → tailRead s ≡ RawTailRead.Fields raw → raw ≡ rawTail s
-tail-is s size is = let there = tail-read s (omega arith) in cc
-
-pub tail-some : (s : List ℕ) → length s ≡ 64 → tailRead s ≡ RawTailRead.Truncated → ⊥
-tail-some s size is =
-    let there = tail-read s (omega arith) in
-    let never : _≡_ {A = ℕ} 0 1 = cc in
-    omega arith
 
 -- ---- what the checks ask for
 

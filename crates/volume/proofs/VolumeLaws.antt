@@ -11,19 +11,16 @@ use lib.ListN.{length, getD, take, length-append}
 use lib.Seq.{take-at, take-all, take-take}
 use Rattle.codec.specs.Bytes.{AllBytes, le, bytes, bytes16, bytes32}
 use Rattle.codec.specs.Outcome.{given}
-use Rattle.codec.proofs.CursorLaws.{length-bytes, le-byte, le-bytes, le-shift, bytes-more, take-bytes}
+use Rattle.codec.proofs.CursorLaws.{le-byte, le-bytes, le-shift, bytes-more, take-bytes}
 use Rattle.region.specs.Block.{blockSize, entriesPerPage}
 use Rattle.region.proofs.BlockLaws.{block-high}
 use Rattle.volume_base.specs.Base.{decodeBase, baseBytes}
 use Rattle.volume_base.proofs.BaseLaws.{length-base, base-encodes-back, base-acceptable, at-32, base-decodes-back}
-use Rattle.volume.specs.Volume.{rawTail, record2, tailCheck, decodeVolume, tailBytes, volumeBytes, Acceptable}
+use Rattle.volume_tail.specs.Tail.{rawTail, tailBytes}
+use Rattle.volume_tail.proofs.TailLaws.{length-tail}
+use Rattle.volume.specs.Volume.{record2, tailCheck, decodeVolume, storedTail, volumeBytes, Acceptable}
 use Rattle.volume.specs.declared.meta2.VolumeMeta2.{VolumeMeta2}
-use Rattle.volume.specs.declared.meta2.RawTail.{RawTail}
 use Rattle.volume.proofs.DecodeLaws.{volume-decoded, tail-decides}
-
-length-tail : (v : VolumeMeta2) → length (tailBytes v) ≡ 16
-unfolding tailBytes
-length-tail v = simp (length-append, length-bytes)
 
 pub length-volume : (v : VolumeMeta2) → length (volumeBytes v) ≡ 64
 unfolding volumeBytes
@@ -97,22 +94,10 @@ module _ {v : VolumeMeta2} (ok : Acceptable v) where
   abbrev whole : List ℕ
   whole = volumeBytes v
 
-  -- The part behind the base as it is stored.
-  abbrev stored : RawTail
-  stored =
-      record {
-        «table_pages» = v .«table_pages»;
-        «entries_per_page» = v .«entries_per_page»;
-        «clean_close» = cond (v .«clean_close») 1 0;
-        reserved0 = 0;
-        flags = v .flags;
-        reserved1 = 0;
-      }
-
   -- A number behind the base.
-  behind : (w i : ℕ) → le w whole (48 + i) ≡ le w (tailBytes v) i
+  behind : (w i : ℕ) → le w whole (48 + i) ≡ le w (tailBytes (storedTail v)) i
   unfolding volumeBytes
-  behind w i = ap (λ (k : ℕ). le w whole (k + i)) (sym (length-base (v .base))) ∙ le-shift w (baseBytes (v .base)) (tailBytes v) i
+  behind w i = ap (λ (k : ℕ). le w whole (k + i)) (sym (length-base (v .base))) ∙ le-shift w (baseBytes (v .base)) (tailBytes (storedTail v)) i
 
   at-48 : le 4 whole 48 ≡ v .«table_pages»
   unfolding tailBytes le bytes
@@ -138,10 +123,10 @@ module _ {v : VolumeMeta2} (ok : Acceptable v) where
   unfolding tailBytes le bytes
   at-60 = behind 4 12
 
-  tail-written : rawTail whole ≡ stored
+  tail-written : rawTail whole ≡ storedTail v
   tail-written = simp (at-48, at-52, at-54, at-55, at-56, at-60)
 
-  tail-passes : tailCheck (v .base) stored ≡ given (record2 (v .base) stored)
+  tail-passes : tailCheck (v .base) (storedTail v) ≡ given (record2 (v .base) (storedTail v))
   unfolding tailCheck
   tail-passes =
       simp (
@@ -152,16 +137,16 @@ module _ {v : VolumeMeta2} (ok : Acceptable v) where
         le-ltb _ _ (mark-small (v .«clean_close»)),
       )
 
-  record-read : record2 (v .base) stored ≡ v
+  record-read : record2 (v .base) (storedTail v) ≡ v
   record-read = simp (mark-read (v .«clean_close»))
 
   no-features : le 8 whole 32 ≡ 0
   unfolding volumeBytes
-  no-features = at-32 (ok .base) (tailBytes v) ∙ ok .base .no-features
+  no-features = at-32 (ok .base) (tailBytes (storedTail v)) ∙ ok .base .no-features
 
   base-decodes : decodeBase (take 48 whole) ≡ given (v .base)
   unfolding volumeBytes
-  base-decodes = ap decodeBase (take-at (baseBytes (v .base)) (tailBytes v) 48 (length-base (v .base))) ∙ base-decodes-back (ok .base)
+  base-decodes = ap decodeBase (take-at (baseBytes (v .base)) (tailBytes (storedTail v)) 48 (length-base (v .base))) ∙ base-decodes-back (ok .base)
 
   pub volume-decodes-back : decodeVolume (volumeBytes v) ≡ given v
   volume-decodes-back =

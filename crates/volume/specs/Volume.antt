@@ -1,37 +1,22 @@
 -- The volume record of format 2, 64 bytes (document 01, "Volume record and pages", and its refusals of volume decode, table end and
--- file length): what stands behind the base by offsets, the checks in their order, and the bytes as they are written.
+-- file length): the checks in their order, and the bytes as they are written.
 use mathlib.Core.Path.{_≡_}
 use mathlib.Core.Bool.{cond, not}
 use mathlib.Core.List.{List, _++_}
 use Prim.Native.Nat.{ℕ, _+_, _*_, _^_, _≤_, _<_}
 use lib.Dec.{leb, ltb, eqb}
-use lib.ListN.{length, getD, take}
-use Rattle.codec.specs.Bytes.{le16, le32, le64, bytes, bytes16, bytes32}
+use lib.ListN.{length, take}
+use Rattle.codec.specs.Bytes.{le32, le64}
 use Rattle.codec.specs.Outcome.{Outcome, given, refusal, andThen}
 use Rattle.region.specs.Error.{errorNumber}
 use Rattle.region.specs.Block.{entriesPerPage}
 use Rattle.volume_base.specs.Base.{decodeBase, baseBytes, AcceptableBase}
 use Rattle.volume_base.specs.declared.meta.VolumeMeta.{VolumeMeta}
+use Rattle.volume_tail.specs.Tail.{rawTail, tailBytes}
+use Rattle.volume_tail.specs.declared.RawTail.{RawTail}
 use Rattle.volume.specs.declared.meta2.VolumeMeta2.{VolumeMeta2}
-use Rattle.volume.specs.declared.meta2.RawTail.{RawTail}
-use Rattle.volume.specs.declared.meta2.RawTailRead.{RawTailRead}
 use Rattle.volume.specs.declared.meta2.VolumeMeta2Read.{VolumeMeta2Read}
 use Rattle.volume.specs.declared.meta2.TableEnd.{TableEnd}
-
--- 48 table pages; 52 entries per page; 54 clean mark; 56 flags; zeros at 55 and 60.
-abbrev pub rawTail : List ℕ → RawTail
-rawTail s =
-    record {
-      «table_pages» = le32 s 48;
-      «entries_per_page» = le16 s 52;
-      «clean_close» = getD s 54 0;
-      reserved0 = getD s 55 0;
-      flags = le32 s 56;
-      reserved1 = le32 s 60;
-    }
-
-unfoldable pub tailRead : List ℕ → RawTailRead
-tailRead s = cond (leb 64 (length s)) (RawTailRead.Fields (rawTail s)) RawTailRead.Truncated
 
 abbrev pub record2 : VolumeMeta → RawTail → VolumeMeta2
 record2 base t =
@@ -67,13 +52,21 @@ abbrev pub volumeOutcome : VolumeMeta2Read → Outcome VolumeMeta2
 volumeOutcome (VolumeMeta2Read.Record v) = given v
 volumeOutcome (VolumeMeta2Read.Refused error) = refusal (errorNumber error)
 
-unfoldable pub tailBytes : VolumeMeta2 → List ℕ
-tailBytes v =
-    bytes32 (v .«table_pages») ++ bytes16 (v .«entries_per_page») ++ bytes 1 (cond (v .«clean_close») 1 0) ++ bytes 1 0 ++ bytes32 (v .flags) ++ bytes32 0
+-- What is stored behind the base, zeros at 55 and 60.
+abbrev pub storedTail : VolumeMeta2 → RawTail
+storedTail v =
+    record {
+      «table_pages» = v .«table_pages»;
+      «entries_per_page» = v .«entries_per_page»;
+      «clean_close» = cond (v .«clean_close») 1 0;
+      reserved0 = 0;
+      flags = v .flags;
+      reserved1 = 0;
+    }
 
 -- The record as it is written.
 unfoldable pub volumeBytes : VolumeMeta2 → List ℕ
-volumeBytes v = baseBytes (v .base) ++ tailBytes v
+volumeBytes v = baseBytes (v .base) ++ tailBytes (storedTail v)
 
 -- What a record must hold to be decoded; each number then fits its width.
 pub record Acceptable (v : VolumeMeta2) : Type 0 where

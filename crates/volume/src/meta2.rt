@@ -9,13 +9,8 @@
 // | 55 | 1 | | zero |
 // | 56 | 4 | flags | none defined |
 // | 60 | 4 | | zero |
-use codec::codec::ReadU8;
-use codec::codec::ReadU16;
-use codec::codec::ReadU32;
 use codec::codec::ReadU64;
 use codec::codec::Reader;
-use codec::codec::Writer;
-use codec::codec::Written;
 use region::meta::Check;
 use region::meta::MetaEncoded;
 use region::meta::MetaError;
@@ -23,13 +18,16 @@ use region::meta2::block_size;
 use region::meta2::entries_per_page;
 use volume_base::meta::VolumeMeta;
 use volume_base::meta::VolumeMetaRead;
+use volume_tail::RawTail;
+use volume_tail::RawTailRead;
+use volume_tail::read_tail;
+use volume_tail::write_tail;
 ghost use mathlib.Core.Path.{_≡_};
 ghost use mathlib.Core.Bool.{cond};
 ghost use Prim.Native.Nat.{_≤_};
-ghost use lib.ListN.{length};
 ghost use Rattle.codec.specs.Bytes.{putWhole};
 ghost use Rattle.region.specs.Error.{checkOutcome, encodedOutcome, fitted};
-ghost use Rattle.volume.specs.Volume.{tailRead, tailCheck, decodeVolume, volumeOutcome, tailBytes, volumeBytes, tableEnd, endOutcome, fileCheck};
+ghost use Rattle.volume.specs.Volume.{tailCheck, decodeVolume, volumeOutcome, volumeBytes, tableEnd, endOutcome, fileCheck};
 
 // The format-2 volume record.
 pub struct VolumeMeta2 {
@@ -43,22 +41,6 @@ pub struct VolumeMeta2 {
     pub clean_close: bool,
     // Must-understand volume flags (none defined).
     pub flags: u32,
-}
-
-// The fields behind the base as they are stored.
-pub struct RawTail {
-    pub table_pages: u32,
-    pub entries_per_page: u16,
-    pub clean_close: u8,
-    pub reserved0: u8,
-    pub flags: u32,
-    pub reserved1: u32,
-}
-
-// They, or that there are fewer bytes.
-pub enum RawTailRead {
-    Fields(RawTail),
-    Truncated,
 }
 
 // The record, or the first check that fails.
@@ -86,7 +68,16 @@ impl VolumeMeta2 {
         let MetaEncoded::Length(_) = base.encode(&mut out[..48]) else {
             return MetaEncoded::Refused(MetaError::Length);
         };
-        write_tail(&mut out[48..64], self);
+        let clean_close = mark(self.clean_close);
+        let tail = RawTail {
+            table_pages: self.table_pages,
+            entries_per_page: self.entries_per_page,
+            clean_close,
+            reserved0: 0,
+            flags: self.flags,
+            reserved1: 0,
+        };
+        write_tail(&mut out[48..64], tail);
         MetaEncoded::Length(64)
     }
 
@@ -157,39 +148,6 @@ impl VolumeMeta2 {
     }
 }
 
-// The fields behind the base, in the order of the layout.
-fn read_tail(bytes: &[u8]) -> RawTailRead
-    ensures { λ r. ⌜ r ≡ tailRead (now (bytes .entry)) ⌝ }
-{
-    let r = Reader { pos: 48 };
-    let ReadU32::Value(table_pages, r) = r.u32(bytes) else {
-        return RawTailRead::Truncated;
-    };
-    let ReadU16::Value(entries_per_page, r) = r.u16(bytes) else {
-        return RawTailRead::Truncated;
-    };
-    let ReadU8::Value(clean_close, r) = r.u8(bytes) else {
-        return RawTailRead::Truncated;
-    };
-    let ReadU8::Value(reserved0, r) = r.u8(bytes) else {
-        return RawTailRead::Truncated;
-    };
-    let ReadU32::Value(flags, r) = r.u32(bytes) else {
-        return RawTailRead::Truncated;
-    };
-    let ReadU32::Value(reserved1, _) = r.u32(bytes) else {
-        return RawTailRead::Truncated;
-    };
-    RawTailRead::Fields(RawTail {
-        table_pages,
-        entries_per_page,
-        clean_close,
-        reserved0,
-        flags,
-        reserved1,
-    })
-}
-
 // The record of a base and what is stored behind it.
 fn with_base(base: VolumeMeta, tail: RawTail) -> VolumeMeta2Read
     requires { ⌜ (12 ≤ base .«log2_block_size») × (base .«log2_block_size» ≤ 16) ⌝ }
@@ -227,33 +185,7 @@ fn with_base(base: VolumeMeta, tail: RawTail) -> VolumeMeta2Read
     })
 }
 
-// Writes the fields behind the base, in the order of the layout.
-fn write_tail(out: &mut [u8], v: VolumeMeta2)
-    requires { ⌜ length (now out) ≡ 16 ⌝ }
-    ensures { λ _. ⌜ now (out .exit) ≡ tailBytes v ⌝ }
-{
-    let clean_close = mark(v.clean_close);
-    let w = Writer::new();
-    let Written::Next(w) = w.u32(out, v.table_pages) else {
-        return;
-    };
-    let Written::Next(w) = w.u16(out, v.entries_per_page) else {
-        return;
-    };
-    let Written::Next(w) = w.u8(out, clean_close) else {
-        return;
-    };
-    let Written::Next(w) = w.u8(out, 0) else {
-        return;
-    };
-    let Written::Next(w) = w.u32(out, v.flags) else {
-        return;
-    };
-    let Written::Next(_) = w.u32(out, 0) else {
-        return;
-    };
-}
-
+// The clean mark as it is stored.
 fn mark(clean_close: bool) -> u8
     ensures { λ r. ⌜ r ≡ cond «clean_close» 1 0 ⌝ }
 {

@@ -13,9 +13,11 @@ use Rattle.codec.specs.Cursor.{u64Answer}
 use Rattle.codec.proofs.CursorLaws.{answer-done, answer-refused}
 use Rattle.volume_base.specs.Base.{decodeBase, baseOutcome}
 use Rattle.volume_base.proofs.DecodeLaws.{base-decoded}
-use Rattle.volume.specs.Volume.{rawTail, tailCheck, decodeVolume}
-use Rattle.volume.specs.declared.meta2.RawTail.{RawTail}
-use Rattle.volume.proofs.DecodeLaws.{tail-is, tail-some, base-refuses, tail-decides}
+use Rattle.volume_tail.specs.Tail.{rawTail}
+use Rattle.volume_tail.specs.declared.RawTail.{RawTail}
+use Rattle.volume_tail.proofs.TailLaws.{tail-is, tail-some}
+use Rattle.volume.specs.Volume.{tailCheck, decodeVolume}
+use Rattle.volume.proofs.DecodeLaws.{base-refuses, tail-decides}
 use borrow.Author.Needs.{needs}
 use Rattle.volume.proofs.meta2.VolumeMeta2.decode.Statement.{statement}
 use Rattle.volume.proofs.meta2.VolumeMeta2.decode.Tie as tie

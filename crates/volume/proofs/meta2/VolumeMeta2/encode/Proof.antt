@@ -5,18 +5,25 @@ use mathlib.Core.List.{List, _++_}
 use Prim.Native.Nat.{ℕ, _≤_}
 use native.Mathlib.Omega.{arith}
 use borrow.Rule.Slice.PartMut.{putMid}
-use lib.ListN.{length, take, drop}
+use lib.ListN.{length, take, drop, length-take, length-drop, length-append}
 use lib.Seq.{length-take-le}
+use Rattle.codec.specs.Bytes.{putWhole}
 use Rattle.codec.proofs.CursorLaws.{put-whole, put-all}
 use Rattle.region.specs.Error.{encodedOutcome}
 use Rattle.volume_base.specs.Base.{baseBytes}
 use Rattle.volume_base.proofs.BaseLaws.{length-base}
-use Rattle.volume.specs.Volume.{tailBytes, volumeBytes}
+use Rattle.volume_tail.specs.Tail.{tailBytes}
+use Rattle.volume_tail.proofs.TailLaws.{length-tail}
+use Rattle.volume.specs.Volume.{storedTail, volumeBytes}
 use Rattle.region.proofs.FitLaws.{too-short, put-front, has-room, two-parts}
 use Rattle.volume.proofs.VolumeLaws.{length-volume}
 use borrow.Author.Needs.{needs}
 use Rattle.volume.proofs.meta2.VolumeMeta2.encode.Statement.{statement}
 use Rattle.volume.proofs.meta2.VolumeMeta2.encode.Tie as tie
+
+-- Bytes put over a part of their own length.
+put-over : (part bs : List ℕ) → length part ≡ length bs → putWhole part 0 bs ≡ bs
+put-over part bs same = put-whole part 0 bs (omega arith) ∙ put-all part bs (sym same)
 
 module _ (c : tie.After-encode) where
   abbrev entry : tie.Start
@@ -33,9 +40,7 @@ module _ (c : tie.After-encode) where
 
   base-is : c .encode .last .1 .0 ≡ baseBytes (entry .args .self .base)
   base-is =
-      let size = length-base (entry .args .self .base) in
-      let lent-size = lent in
-      c .encode .ensures .1 ∙ put-whole (take 48 old) 0 _ (omega arith) ∙ put-all (take 48 old) _ (size ∙ sym lent-size)
+      c .encode .ensures .1 ∙ put-over _ _ (lent ∙ sym (length-base (entry .args .self .base)))
 
 returns : tie.Need-returns
 returns c = too-short 64 _ _ (length-volume _) (c .if1 .taken)
@@ -67,6 +72,9 @@ returns-2 c =
     let size = lent called in
     absurd (has-room 48 (take 48 (old called)) (omega arith) (sym (called .encode .ensures .0) ∙ ap encodedOutcome (c .enum-told2 .given .1)))
 
+mark-requires : tie.Need-mark-requires
+mark-requires c κs = search needs
+
 sub-write-tail : tie.Need-sub-write-tail
 sub-write-tail c = search needs
 
@@ -82,15 +90,25 @@ write-tail-requires c κs = search needs
 same-length-2 : tie.Need-same-length-2
 same-length-2 c = search needs
 
+-- The 16 bytes behind the base come back as what is stored there.
+tail-is : (c : tie.After-write-tail)
+    → c .write-tail .last .0 ≡ tailBytes (storedTail (entry (c .before .before .before .before .before .before .before) .args .self))
+tail-is c =
+    let called = c .before .before .before .before .before .before .before in
+    let base : length (called .encode .last .1 .0) ≡ 48 = ap length (base-is called) ∙ length-base _ in
+    let lent : length (take 16 (drop 48 (called .encode .last .1 .0 ++ drop 48 (old called)))) ≡ 16 =
+    simp (length-take, length-drop, length-append, base) (omega (arith, room called)) in
+    rw (c .before .before .mark .ensures) at (c .write-tail .ensures) ∙ put-over _ _ (lent ∙ sym (length-tail _))
+
 returns-3 : tie.Need-returns-3
 unfolding volumeBytes
 returns-3 c =
-    let called = c .before .before .before .before .before .before .before .before in
+    let called = c .before .before .before .before .before .before .before .before .before in
     let self = entry called .args .self in
     let written = put-front 64 (old called) _ (length-volume self) (room called) in (
       written .0,
-      ap₂ (λ (b t : List ℕ). putMid 48 16 (b ++ drop 48 (old called)) t) (base-is called) (c .before .before .write-tail .ensures)
-          ∙ two-parts 48 16 (old called) (baseBytes (self .base)) (tailBytes self) (length-base (self .base))
+      ap₂ (λ (b t : List ℕ). putMid 48 16 (b ++ drop 48 (old called)) t) (base-is called) (tail-is (c .before .before))
+          ∙ two-parts 48 16 (old called) (baseBytes (self .base)) (tailBytes (storedTail self)) (length-base (self .base))
           ∙ written .1,
     )
 
@@ -106,6 +124,7 @@ encode-spec =
     enum-told-2
     same-length
     returns-2
+    mark-requires
     sub-write-tail
     part-write-tail-start
     part-write-tail-end

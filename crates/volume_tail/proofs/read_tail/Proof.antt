@@ -8,10 +8,10 @@ use Rattle.codec.specs.Bytes.{le}
 use Rattle.codec.specs.Cursor.{u8Answer, u16Answer, u32Answer}
 use Rattle.codec.proofs.CursorLaws.{le-byte, answer-done, answer-refused}
 use Rattle.region.proofs.FitLaws.{Done}
-use Rattle.volume.proofs.DecodeLaws.{tail-cut, tail-there}
+use Rattle.volume_tail.proofs.TailLaws.{tail-cut, tail-there}
 use borrow.Author.Needs.{needs}
-use Rattle.volume.proofs.meta2.read_tail.Statement.{statement}
-use Rattle.volume.proofs.meta2.read_tail.Tie as tie
+use Rattle.volume_tail.proofs.read_tail.Statement.{statement}
+use Rattle.volume_tail.proofs.read_tail.Tie as tie
 
 -- The bytes, and the read, at each place of the chain.
 abbrev s1 : tie.After-known-told → List ℕ
