@@ -9,16 +9,6 @@ use borrow.Author.Needs.{needs}
 use Rattle.volume_base.proofs.meta.check_base.Statement.{statement}
 use Rattle.volume_base.proofs.meta.check_base.Tie as tie
 
-module _ (c : tie.After-block-size) where
-  abbrev entry : tie.Start
-  entry = c .before .before .before .before .before .before .before .before .before .before .before .before .before .before
-
-  abbrev log2 : ℕ
-  log2 = entry .args .raw .fields .«log2_block_size»
-
-  size : c .block-size .result ≡ 2 ^ log2
-  size = c .block-size .ensures ∙ block-power log2 (c .before .before .before .before .before .before .if4 .left) (c .before .before .before .before .before .if5 .left)
-
 returns : tie.Need-returns
 unfolding baseCheck
 returns c = search tests
@@ -46,6 +36,16 @@ returns-6 c = search tests
 returns-7 : tie.Need-returns-7
 unfolding baseCheck
 returns-7 c = search tests
+
+module _ (c : tie.After-block-size) where
+  abbrev entry : tie.Start
+  entry = c .before .before .before .before .before .before .before .before .before .before .before .before .before .before
+
+  abbrev log2 : ℕ
+  log2 = entry .args .raw .fields .«log2_block_size»
+
+  size : c .block-size .result ≡ 2 ^ log2
+  size = c .block-size .ensures ∙ block-power log2 (c .before .before .before .before .before .before .if4 .left) (c .before .before .before .before .before .if5 .left)
 
 block-size-requires : tie.Need-block-size-requires
 block-size-requires c κs = search needs

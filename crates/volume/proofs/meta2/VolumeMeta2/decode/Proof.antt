@@ -36,25 +36,6 @@ module _ (c : tie.After-known-told2) where
   features-read : c .before .features .given .0 .0 ≡ le64 s 32
   features-read = answer-done 6 (le 8 s) s 32 8 (c .before .before .before .u64 .ensures) refl (ap u64Answer (c .before .features .given .1)) .0
 
--- Past the test of the flags.
-module _ (c : tie.Else3) where
-  abbrev read : tie.After-known-told2
-  read = c .before .before .before
-
-  no-features : le64 (s read) 32 ≡ 0
-  no-features = sym (features-read read) ∙ c .before .before .if2 .left
-
-  no-flags : le32 (s read) 56 ≡ 0
-  no-flags = sym (ap (λ (t : RawTail). t .flags) (tail-read read)) ∙ c .if3 .left
-
--- Where the first 48 bytes gave a base.
-module _ (c : tie.After-known-told4) where
-  abbrev tested : tie.Else3
-  tested = c .before .before .before .before .before
-
-  based : decodeBase (take 48 (s (read tested))) ≡ given (c .before .base .given .0 .0)
-  based = sym (c .before .before .before .decode .ensures) ∙ ap baseOutcome (c .before .base .given .1)
-
 returns : tie.Need-returns
 unfolding decodeVolume
 returns c = simp (ne-eqb _ _ (c .if1 .taken))
@@ -99,6 +80,25 @@ returns-5 c =
       eq-eqb _ _ (sym (features-read read) ∙ c .before .before .if2 .left),
       ne-eqb _ _ (λ none. c .if3 .taken (ap (λ (t : RawTail). t .flags) (tail-read read) ∙ none)),
     )
+
+-- Past the test of the flags.
+module _ (c : tie.Else3) where
+  abbrev read : tie.After-known-told2
+  read = c .before .before .before
+
+  no-features : le64 (s read) 32 ≡ 0
+  no-features = sym (features-read read) ∙ c .before .before .if2 .left
+
+  no-flags : le32 (s read) 56 ≡ 0
+  no-flags = sym (ap (λ (t : RawTail). t .flags) (tail-read read)) ∙ c .if3 .left
+
+-- Where the first 48 bytes gave a base.
+module _ (c : tie.After-known-told4) where
+  abbrev tested : tie.Else3
+  tested = c .before .before .before .before .before
+
+  based : decodeBase (take 48 (s (read tested))) ≡ given (c .before .base .given .0 .0)
+  based = sym (c .before .before .before .decode .ensures) ∙ ap baseOutcome (c .before .base .given .1)
 
 slice-aggregate-decode : tie.Need-slice-aggregate-decode
 slice-aggregate-decode c =
