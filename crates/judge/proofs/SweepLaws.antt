@@ -1,5 +1,4 @@
--- A pass over a row of pairs, one pair at a time: what it counts stays small, what is left to go through gives the whole, and what each
--- of the three passes leaves.
+-- A pass over a row of pairs, one pair at a time: what is left to go through gives the whole, and what each of the three passes leaves.
 use mathlib.Core.Path.{_≡_, refl, sym, ap, ap₂, _∙_}
 use mathlib.Core.Bool.{Bool, true, false, cond}
 use mathlib.Core.List.{List, [], _∷_, _++_, append-assoc}
@@ -15,13 +14,11 @@ use Rattle.verdict.specs.declared.pairs.PairPart.{PairPart}
 use Rattle.verdict.specs.declared.numbers.Maxima.{Maxima}
 use Rattle.verdict.specs.declared.verdict.PairVerdict.{PairVerdict}
 use Rattle.verdict.specs.declared.verdict.Standing.{Standing}
-use Rattle.verdict.specs.Pairs.{numbered}
 use Rattle.verdict.specs.Numbers.{slots}
-use Rattle.verdict.specs.Maxima.{noteSeq, noteAll}
-use Rattle.verdict.specs.Verdict.{noWinner, inFlight}
-use Rattle.verdict.specs.Judge.{count, lastVerdicts, demoted, healOf, heal}
+use Rattle.verdict.specs.Maxima.{noteAll}
+use Rattle.verdict.specs.Verdict.{noWinner}
+use Rattle.verdict.specs.Judge.{lastVerdicts, demoted, healOf, heal}
 use Rattle.verdict.specs.Passes.{verdictsBy, tallies}
-use Rattle.verdict.proofs.NumberLaws.{note-count}
 use Rattle.verdict.proofs.PassLaws.{row-judged, verdicts-judged}
 use Rattle.slot.specs.declared.slot.SlotStatus.{SlotStatus}
 use Rattle.slot.specs.declared.slot.HeaderFacts.{HeaderFacts}
@@ -31,48 +28,15 @@ use Rattle.judge.specs.declared.Progress.{Progress}
 use Rattle.judge.specs.declared.Stepped.{Stepped}
 use Rattle.judge.specs.declared.frames.Judged.{Judged}
 use Rattle.judge.specs.Row.{pairRead, rowRead, refusedRow, rowJudged, rowVerdicts}
-use Rattle.judge.specs.Sweep.{begun, finished, withMaxima, withTally, withHeal, rulesOf, numberPair, judgePair, settlePair, firstVerdict, stepped, stepAt, counted, rowFromPair, verdictsFromPair, sweptRow, sweptVerdicts}
+use Rattle.judge.specs.Sweep.{begun, finished, withMaxima, withTally, withHeal, rulesOf, numberPair, judgePair, settlePair, firstVerdict, stepped, stepAt, rowFromPair, verdictsFromPair, sweptRow, sweptVerdicts}
 
--- ---- what a pass counts
+-- ---- what a pass keeps
 
-pub numbers-counted : (pass : ℕ) (s : Progress) → pass ≡ 0 → counted pass s ≡ s .maxima .«max1_count»
-unfolding counted
-numbers-counted pass s is = rw is
-
-pub first-counted : (pass : ℕ) (s : Progress) → pass ≡ 1 → counted pass s ≡ s .tally .candidates
-unfolding counted
-first-counted pass s is = rw is
-
-count-grows : (v : PairVerdict) (n : ℕ) → count v n ≤ n + 1
-count-grows v n = go (inFlight v)
-  where
-    go : (flight : Bool) → cond flight (n + 1) n ≤ n + 1
-    go true = omega arith
-    go false = omega arith
-
--- What a step makes, and what is counted in it, by the tests on the pass.
+-- What a step makes, by the tests on the pass.
 abbrev chosen : Bool → Bool → Progress → ℕ → PairRead → PairVerdict → Stepped
 chosen numbers first s i p v =
     cond numbers (record { progress = numberPair s (pairRead p); verdict = v })
     (cond first (judgePair s (eqb i 0) (pairRead p)) (settlePair s i v))
-
-abbrev countedBy : Bool → Bool → Progress → ℕ
-countedBy numbers first s = cond numbers (s .maxima .«max1_count») (cond first (s .tally .candidates) 0)
-
-chosen-counted : (numbers first : Bool) (s : Progress) (i : ℕ) (p : PairRead) (v : PairVerdict)
-    → countedBy numbers first (chosen numbers first s i p v .progress) ≤ countedBy numbers first s + 2
-unfolding numberPair judgePair settlePair
-chosen-counted true first s i p v =
-    let first = numbered (pairRead p .a) in
-    omega (arith, note-count (s .maxima) first, note-count (noteSeq (s .maxima) first) (numbered (pairRead p .b)))
-chosen-counted false true s i p v = omega (arith, count-grows (firstVerdict s (pairRead p)) (s .tally .candidates))
-chosen-counted false false s i p v = omega arith
-
--- A pair adds at most two.
-pub step-counted : (pass : ℕ) (s : Progress) (i : ℕ) (p : PairRead) (v : PairVerdict)
-    → counted pass (stepped pass s i p v .progress) ≤ counted pass s + 2
-unfolding counted stepped
-step-counted pass s i p v = chosen-counted (eqb pass 0) (eqb pass 1) s i p v
 
 chosen-count : (numbers first : Bool) (s : Progress) (i : ℕ) (p : PairRead) (v : PairVerdict)
     → chosen numbers first s i p v .progress .count ≡ s .count
@@ -309,19 +273,6 @@ module _ (ps : List PairRead) (ys : List PairVerdict) (clean : Bool) where
 
   abbrev pub lasts : List PairVerdict
   lasts = sweptVerdicts 2 judged ps firsts
-
-  -- What a pass counts is nothing before it.
-  pub start-counted : counted 0 start ≤ 0
-  unfolding counted begun
-  start-counted = omega arith
-
-  pub numbers-counted-none : counted 1 numbers ≤ 0
-  unfolding counted begun
-  numbers-counted-none = rw (numbers-row start 0 (take (start .count) ps) ys) (omega arith)
-
-  pub judged-counted : counted 2 judged ≤ 0
-  unfolding counted
-  judged-counted = omega arith
 
   pub start-fits : (start .count ≤ length ps) × (start .count ≤ length ys)
   unfolding begun

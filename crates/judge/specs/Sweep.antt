@@ -99,10 +99,6 @@ stepped pass s i p v =
     cond (eqb pass 0) (record { progress = numberPair s (pairRead p); verdict = v })
     (cond (eqb pass 1) (judgePair s (eqb i 0) (pairRead p)) (settlePair s i v))
 
--- What a pass counts, which must stay in its type.
-unfoldable pub counted : ℕ → Progress → ℕ
-counted pass s = cond (eqb pass 0) (s .maxima .«max1_count») (cond (eqb pass 1) (s .tally .candidates) 0)
-
 -- ---- a pass
 
 -- The step at i of a list of verdicts.

@@ -214,7 +214,7 @@ fn maxima_of(frames: &[u8], n: usize) -> Maxima
     let mut i = 0;
     while i < n {
         let p = pair_from(&frames[i * FRAME..]);
-        m = crate::note_pair(m, p);
+        m = verdict::numbers::note_pair(m, p);
         i += 1;
     }
     m
@@ -235,7 +235,7 @@ fn first_pass(frames: &[u8], n: usize, m: Maxima) -> Tally
     while i < n {
         let case = verdict::pairs::pair_case(pair_from(&frames[i * FRAME..]));
         let v = verdict::verdict::pair_verdict(m, case);
-        t = crate::tallied(t, i == 0, case, v);
+        t = verdict::verdict::tallied(t, i == 0, case, v);
         i += 1;
     }
     t

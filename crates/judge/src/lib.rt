@@ -14,8 +14,6 @@ use frames::Judged;
 use slot::slot::HeaderFacts;
 use slot::slot::SlotStatus;
 use verdict::numbers::Maxima;
-use verdict::pairs::MetaSeq;
-use verdict::pairs::PairCase;
 use verdict::pairs::PairPart;
 use verdict::verdict::Heal;
 use verdict::verdict::Judgement;
@@ -27,13 +25,10 @@ use verdict::verdict::WinnerSlot;
 ghost use mathlib.Core.Path.{_≡_};
 ghost use mathlib.Core.Bool.{cond};
 ghost use lib.Dec.{eqb};
-ghost use Prim.Native.Nat.{_+_, _*_, _≤_, _<_, _^_};
+ghost use Prim.Native.Nat.{_≤_};
 ghost use lib.ListN.{length};
-ghost use Rattle.verdict.specs.Pairs.{numbered};
-ghost use Rattle.verdict.specs.Maxima.{note, noteSeq};
-ghost use Rattle.verdict.specs.Judge.{count, tallied};
 ghost use Rattle.judge.specs.Row.{partRead, pairRead, refusedRow, rowJudged, rowVerdicts};
-ghost use Rattle.judge.specs.Sweep.{begun, carried, numberPair, judgePair, settlePair, counted, stepped, sweptRow, sweptVerdicts, finished};
+ghost use Rattle.judge.specs.Sweep.{begun, carried, numberPair, judgePair, settlePair, stepped, sweptRow, sweptVerdicts, finished};
 
 pub mod frames;
 
@@ -75,79 +70,6 @@ const FIRST: u8 = 1;
 
 const SECOND: u8 = 2;
 
-// ---- the numbers and the tally, kept as the pairs are gone through
-
-fn note(m: Maxima, v: u64) -> Maxima
-    requires { ⌜ m .«max1_count» < 2 ^ 63 ⌝ }
-    ensures { λ r. ⌜ r ≡ note m v ⌝ }
-{
-    if m.max1 < v {
-        return Maxima {
-            max1: v,
-            max1_count: 1,
-            max2: m.max1,
-        };
-    }
-    if v == m.max1 {
-        return Maxima {
-            max1: m.max1,
-            max1_count: m.max1_count + 1,
-            max2: m.max2,
-        };
-    }
-    if m.max2 < v {
-        return Maxima {
-            max1: m.max1,
-            max1_count: m.max1_count,
-            max2: v,
-        };
-    }
-    m
-}
-
-fn note_slot(m: Maxima, s: SlotPart) -> Maxima
-    requires { ⌜ m .«max1_count» < 2 ^ 63 ⌝ }
-    ensures { λ r. ⌜ r ≡ noteSeq m (numbered s) ⌝ }
-{
-    let seq = verdict::pairs::numbered(s);
-    match seq {
-        MetaSeq::Nothing => m,
-        MetaSeq::Number(v) => note(m, v),
-    }
-}
-
-// The maxima with both slots of a pair counted in.
-fn note_pair(m: Maxima, p: PairPart) -> Maxima
-    requires { ⌜ m .«max1_count» < 2 ^ 62 ⌝ }
-    ensures { λ r. ⌜ (r ≡ noteSeq (noteSeq m (numbered (p .a))) (numbered (p .b))) × (r .«max1_count» ≤ m .«max1_count» + 2) ⌝ }
-{
-    let a = p.a;
-    let b = p.b;
-    let with_a = note_slot(m, a);
-    note_slot(with_a, b)
-}
-
-// One more where a slot of the pair is in flight.
-fn count(v: PairVerdict, n: usize) -> usize
-    requires { ⌜ n < 2 ^ 63 ⌝ }
-    ensures { λ r. ⌜ (r ≡ count v n) × (r ≤ n + 1) ⌝ }
-{
-    if verdict::verdict::in_flight(v) {
-        n + 1
-    } else {
-        n
-    }
-}
-
-// The tally with one more pair; `volume`: it is the volume record.
-fn tallied(t: Tally, volume: bool, case: PairCase, v: PairVerdict) -> Tally
-    requires { ⌜ t .candidates < 2 ^ 63 ⌝ }
-    ensures { λ r. ⌜ (r ≡ tallied t volume case v) × (r .candidates ≤ t .candidates + 1) ⌝ }
-{
-    let candidates = count(v, t.candidates);
-    verdict::verdict::tallied(t, candidates, volume, case, v)
-}
-
 // ---- a pair as read
 
 fn part_read(s: SlotRead) -> SlotPart
@@ -187,10 +109,9 @@ fn carried(s: Progress, maxima: Maxima, tally: Tally, volume: PairVerdict, heal:
 }
 
 fn number_pair(s: Progress, p: PairPart) -> Progress
-    requires { ⌜ s .maxima .«max1_count» < 2 ^ 62 ⌝ }
     ensures { λ r. ⌜ r ≡ numberPair s p ⌝ }
 {
-    let maxima = note_pair(s.maxima, p);
+    let maxima = verdict::numbers::note_pair(s.maxima, p);
     let tally = s.tally;
     let volume = s.volume;
     let heal = s.heal;
@@ -205,7 +126,6 @@ fn volume_verdict(first: bool, verdict: PairVerdict, known: PairVerdict) -> Pair
 
 // The first verdict; `first`: it is the volume record's, which is kept.
 fn judge_pair(s: Progress, first: bool, p: PairPart) -> Stepped
-    requires { ⌜ s .tally .candidates < 2 ^ 63 ⌝ }
     ensures { λ r. ⌜ r ≡ judgePair s first p ⌝ }
 {
     let maxima = s.maxima;
@@ -214,7 +134,7 @@ fn judge_pair(s: Progress, first: bool, p: PairPart) -> Stepped
     let heal = s.heal;
     let case = verdict::pairs::pair_case(p);
     let verdict = verdict::verdict::pair_verdict(maxima, case);
-    let tally = tallied(before, first, case, verdict);
+    let tally = verdict::verdict::tallied(before, first, case, verdict);
     let volume = volume_verdict(first, verdict, known);
     let progress = carried(s, maxima, tally, volume, heal);
     Stepped { progress, verdict }
@@ -245,7 +165,6 @@ fn demotes(first: bool, volume: bool, page: bool) -> bool
 
 // The pair at `i` of the row, with the verdict that stands there, in one pass.
 fn step(pass: u8, s: Progress, i: usize, p: PairRead, v: PairVerdict) -> Stepped
-    requires { ⌜ (counted pass s ≤ 2 * i) × (i < 2 ^ 60) ⌝ }
     ensures { λ r. ⌜ r ≡ stepped pass s i p v ⌝ }
 {
     if pass == NUMBERS {
@@ -265,7 +184,7 @@ fn step(pass: u8, s: Progress, i: usize, p: PairRead, v: PairVerdict) -> Stepped
 
 // One pass over the row.
 fn sweep(pairs: &[PairRead], out: &mut [PairVerdict], pass: u8, start: Progress) -> Progress
-    requires { ⌜ (start .count ≤ length (now pairs)) × (start .count ≤ length (now out)) × (counted pass start ≤ 0) ⌝ }
+    requires { ⌜ (start .count ≤ length (now pairs)) × (start .count ≤ length (now out)) ⌝ }
     ensures { λ r. ⌜ (r ≡ sweptRow pass start (now (pairs .entry)) (now (out .entry))) × (now (out .exit) ≡ sweptVerdicts pass start (now (pairs .entry)) (now (out .entry))) ⌝ }
 {
     let n = start.count;

@@ -12,7 +12,7 @@ use Rattle.verdict.specs.declared.pairs.MetaSeq.{MetaSeq}
 use Rattle.verdict.specs.declared.numbers.Maxima.{Maxima}
 use Rattle.verdict.specs.Pairs.{numbered}
 use Rattle.verdict.specs.Numbers.{number, highest, highestOther, qualifies}
-use Rattle.verdict.specs.Maxima.{note, noteSeq, noteAll, noMaxima, othersMax, qualifiesBy}
+use Rattle.verdict.specs.Maxima.{oneMore, note, noteSeq, noteAll, noMaxima, othersMax, qualifiesBy}
 
 -- Two tests that hold together are the same.
 pub same-test : (a b c d : ℕ) → (a ≡ b → c ≡ d) → (c ≡ d → a ≡ b) → eqb a b ≡ eqb c d
@@ -25,7 +25,7 @@ same-test a b c d to back = go (eqb a b) refl
 -- The four ways of a note, each with what it is told.
 note-cases : (P : Maxima → Type 0) (m : Maxima) (v : ℕ)
     → (m .max1 < v → P (record { max1 = v; «max1_count» = 1; max2 = m .max1 }))
-    → (v ≡ m .max1 → P (record { max1 = m .max1; «max1_count» = m .«max1_count» + 1; max2 = m .max2 }))
+    → (v ≡ m .max1 → P (record { max1 = m .max1; «max1_count» = oneMore (m .«max1_count»); max2 = m .max2 }))
     → (v < m .max1 → m .max2 < v → P (record { max1 = m .max1; «max1_count» = m .«max1_count»; max2 = v }))
     → (v < m .max1 → v ≤ m .max2 → P m)
     → P (note m v)
@@ -34,7 +34,7 @@ note-cases P m v higher same between lower = go (ltb (m .max1) v) (eqb v (m .max
     go : (x y z : Bool) → ltb (m .max1) v ≡ x → eqb v (m .max1) ≡ y → ltb (m .max2) v ≡ z
         → P
         (cond x (record { max1 = v; «max1_count» = 1; max2 = m .max1 })
-        (cond y (record { max1 = m .max1; «max1_count» = m .«max1_count» + 1; max2 = m .max2 })
+        (cond y (record { max1 = m .max1; «max1_count» = oneMore (m .«max1_count»); max2 = m .max2 })
         (cond z (record { max1 = m .max1; «max1_count» = m .«max1_count»; max2 = v }) m)))
     go true y z above equal second = higher (ltb-true (m .max1) v above)
     go false true z above equal second = same (eqb-true v (m .max1) equal)
@@ -46,11 +46,6 @@ note-cases P m v higher same between lower = go (ltb (m .max1) v) (eqb v (m .max
         let most = ltb-false (m .max1) v above in
         let differ = eqb-false v (m .max1) equal in
         lower (omega arith) (ltb-false (m .max2) v second)
-
-pub note-count : (m : Maxima) (seq : MetaSeq) → noteSeq m seq .«max1_count» ≤ m .«max1_count» + 1
-note-count m MetaSeq.Nothing = omega arith
-note-count m (MetaSeq.Number v) =
-    note-cases (λ u. u .«max1_count» ≤ m .«max1_count» + 1) m v (λ a. omega arith) (λ a. omega arith) (λ a b. omega arith) (λ a b. omega arith)
 
 -- ---- after the candidate's own slot
 

@@ -4,7 +4,6 @@ use mathlib.Core.Path.{_≡_, refl, ap, _∙_, subst}
 use mathlib.Core.Bool.{Bool, true, false, cond}
 use mathlib.Core.List.{List, [], _∷_}
 use Prim.Native.Nat.{ℕ, suc, _+_, _*_}
-use native.Mathlib.Nat.{zero-add}
 use native.Mathlib.Omega.{arith}
 use lib.Dec.{eqb, ltb, leb}
 use borrow.Author.Tests.{eqb-true, ne-eqb}
@@ -24,7 +23,7 @@ use Rattle.verdict.specs.declared.verdict.Judgement.{Judgement}
 use Rattle.verdict.specs.Pairs.{numbered, badPayload, badHeader, blank, oppositeSlot, unsupported, newer, pairCase, hasCandidate}
 use Rattle.verdict.specs.Verdict.{byIndex, slotVerdict, pairVerdict, inFlight, refused}
 use Rattle.verdict.specs.Numbers.{slots, qualifies}
-use Rattle.verdict.specs.Maxima.{noteAll, noMaxima, qualifiesBy, byMaxima}
+use Rattle.verdict.specs.Maxima.{oneMore, noteAll, noMaxima, qualifiesBy, byMaxima}
 use Rattle.verdict.specs.Judge.{verdictsFrom, firstVerdicts, volumeVerdict, count, candidates, anyCandidate, anyTrouble, anyRefused, firstTally, tallied, storeRules, demoted, lastVerdicts, heal, writable, rowRules, verdicts, judgeRow}
 use Rattle.verdict.specs.Passes.{verdictsBy, noTally, tallies}
 use Rattle.verdict.proofs.NumberLaws.{At, qualifies-same}
@@ -195,12 +194,29 @@ or-none : (p : Bool) → p ≡ cond p true false
 or-none true = refl
 or-none false = refl
 
-count-more : (v : PairVerdict) (n k : ℕ) → count v n + k ≡ n + count v k
-count-more v n k = go (inFlight v)
+-- The candidates of a row, counted on from n.
+abbrev candidatesFrom : ℕ → List PairVerdict → ℕ
+candidatesFrom n [] = n
+candidatesFrom n (v ∷ vs) = count v (candidatesFrom n vs)
+
+from-none : (vs : List PairVerdict) → candidatesFrom 0 vs ≡ candidates vs
+from-none [] = refl
+from-none (v ∷ vs) = ap (count v) (from-none vs)
+
+count-swap : (v w : PairVerdict) (n : ℕ) → count v (count w n) ≡ count w (count v n)
+count-swap v w n = go (inFlight v) (inFlight w)
   where
-    go : (flight : Bool) → cond flight (n + 1) n + k ≡ n + cond flight (k + 1) k
-    go true = omega arith
-    go false = refl
+    go : (x y : Bool) → cond x (oneMore (cond y (oneMore n) n)) (cond y (oneMore n) n)
+        ≡ cond y (oneMore (cond x (oneMore n) n)) (cond x (oneMore n) n)
+    go true true = refl
+    go true false = refl
+    go false true = refl
+    go false false = refl
+
+-- It is the same whether a pair is counted before the others or after them.
+count-first : (v : PairVerdict) (n : ℕ) (vs : List PairVerdict) → candidatesFrom (count v n) vs ≡ count v (candidatesFrom n vs)
+count-first v n [] = refl
+count-first v n (w ∷ vs) = ap (count w) (count-first v n vs) ∙ count-swap w v (candidatesFrom n vs)
 
 tally-at : (t : Tally) (n : ℕ) (page trouble none : Bool) → t .candidates ≡ n → t .«page_had_candidate» ≡ page → t .troubled ≡ trouble
     → t .refused ≡ none → t ≡ record { candidates = n; «page_had_candidate» = page; troubled = trouble; refused = none }
@@ -209,27 +225,27 @@ tally-at t n page trouble none n-is page-is trouble-is none-is = rw (← n-is, �
 tallies-from : (m : Maxima) (t : Tally) (ps : List PairPart)
     → tallies m false t ps
     ≡ record {
-      candidates = t .candidates + candidates (verdictsBy m ps);
+      candidates = candidatesFrom (t .candidates) (verdictsBy m ps);
       «page_had_candidate» = cond (t .«page_had_candidate») true (anyCandidate ps);
       troubled = cond (t .troubled) true (anyTrouble (verdictsBy m ps));
       refused = cond (t .refused) true (anyRefused (verdictsBy m ps));
     }
 tallies-from m t [] =
-    tally-at t (t .candidates + 0) (cond (t .«page_had_candidate») true false) (cond (t .troubled) true false) (cond (t .refused) true false)
-    (omega arith)
+    tally-at t (t .candidates) (cond (t .«page_had_candidate») true false) (cond (t .troubled) true false) (cond (t .refused) true false)
+    refl
     (or-none (t .«page_had_candidate»))
     (or-none (t .troubled))
     (or-none (t .refused))
 tallies-from m t (p ∷ ps) =
     tallies-from m (tallied t false (pairCase p) (pairVerdict (byMaxima m) (pairCase p))) ps
-    ∙ rw (count-more, or-swap (hasCandidate (pairCase p)) (t .«page_had_candidate»), or-unless, or-swap)
+    ∙ rw (count-first, or-swap (hasCandidate (pairCase p)) (t .«page_had_candidate»), or-unless, or-swap)
 
 tally-same : (m : Maxima) (ps : List PairPart) → tallies m true noTally ps ≡ firstTally ps (verdictsBy m ps)
 unfolding firstTally
 tally-same m [] = refl
 tally-same m (p ∷ ps) =
     tallies-from m (tallied noTally true (pairCase p) (pairVerdict (byMaxima m) (pairCase p))) ps
-    ∙ rw (count-more, zero-add, or-unless, or-swap)
+    ∙ rw (count-first, from-none, or-unless, or-swap)
 
 -- ---- the whole judgement, from what the passes leave, for any row that is not empty
 

@@ -18,6 +18,7 @@ use Rattle.verdict.specs.declared.verdict.Judgement.{Judgement}
 use Rattle.verdict.specs.Pairs.{pairCase, hasCandidate}
 use Rattle.verdict.specs.Verdict.{byIndex, noWinner, pairVerdict, isInFlight, inFlight, confirmed, refused, unconfirmed, withoutWinner}
 use Rattle.verdict.specs.Numbers.{slots, qualifies}
+use Rattle.verdict.specs.Maxima.{oneMore}
 
 -- ---- the first pass
 
@@ -37,7 +38,7 @@ volumeVerdict (v ∷ vs) = v
 
 -- One more, if a slot of the pair is in flight.
 abbrev pub count : PairVerdict → ℕ → ℕ
-count v n = cond (inFlight v) (n + 1) n
+count v n = cond (inFlight v) (oneMore n) n
 
 abbrev pub candidates : List PairVerdict → ℕ
 candidates [] = 0
@@ -65,18 +66,15 @@ unfoldable pub firstTally : List PairPart → List PairVerdict → Tally
 firstTally ps vs =
     record { candidates = candidates vs; «page_had_candidate» = pageCandidate ps; troubled = anyTrouble vs; refused = anyRefused vs }
 
--- The tally as it is kept, with one more pair and so many candidates; `volume`: it is the volume record.
-abbrev pub talliedWith : ℕ → Tally → Bool → PairCase → PairVerdict → Tally
-talliedWith candidates t volume case v =
+-- The tally as it is kept, with one more pair; `volume`: it is the volume record.
+abbrev pub tallied : Tally → Bool → PairCase → PairVerdict → Tally
+tallied t volume case v =
     record {
-      candidates = candidates;
+      candidates = count v (t .candidates);
       «page_had_candidate» = cond volume (t .«page_had_candidate») (cond (hasCandidate case) true (t .«page_had_candidate»));
       troubled = cond (confirmed (v .standing)) (t .troubled) true;
       refused = cond (refused (v .standing)) true (t .refused);
     }
-
-abbrev pub tallied : Tally → Bool → PairCase → PairVerdict → Tally
-tallied t volume case v = talliedWith (count v (t .candidates)) t volume case v
 
 -- ---- the second pass
 

@@ -13,7 +13,7 @@ ghost use lib.Dec.{eqb};
 ghost use Rattle.verdict.specs.Pairs.{isCandidate, hasCandidate};
 ghost use Rattle.verdict.specs.Verdict.{slotVerdict, standingBeside, winnerBeside, noWinner, pairVerdict, isInFlight, inFlight, confirmed, refused, unconfirmed, withoutWinner};
 ghost use Rattle.verdict.specs.Maxima.{qualifiesBy, byMaxima};
-ghost use Rattle.verdict.specs.Judge.{talliedWith, demotedSlot, demoted, healOf, cleanMark, storeRules, writable};
+ghost use Rattle.verdict.specs.Judge.{count, tallied, demotedSlot, demoted, healOf, cleanMark, storeRules, writable};
 
 // What became of one slot.
 pub enum SlotVerdict {
@@ -57,7 +57,7 @@ pub struct PairVerdict {
 
 // What the first pass counts.
 pub struct Tally {
-    // Candidates that qualify.
+    // Candidates that qualify: none, one, or 2 for several.
     pub candidates: usize,
     // Some page had a candidate, qualifying or not.
     pub page_had_candidate: bool,
@@ -274,11 +274,22 @@ fn trouble(s: Standing, before: bool) -> bool
     if confirmed(s) { before } else { true }
 }
 
-// The tally with one more pair and so many candidates; `volume`: it is the volume record.
-pub fn tallied(t: Tally, candidates: usize, volume: bool, case: PairCase, v: PairVerdict) -> Tally
-    ensures { λ r. ⌜ r ≡ talliedWith candidates t volume case v ⌝ }
+// One more where a slot of the pair is in flight.
+fn count(v: PairVerdict, n: usize) -> usize
+    ensures { λ r. ⌜ r ≡ count v n ⌝ }
+{
+    if in_flight(v) {
+        return crate::numbers::one_more(n);
+    }
+    n
+}
+
+// The tally with one more pair; `volume`: it is the volume record.
+pub fn tallied(t: Tally, volume: bool, case: PairCase, v: PairVerdict) -> Tally
+    ensures { λ r. ⌜ r ≡ tallied t volume case v ⌝ }
 {
     let standing = v.standing;
+    let candidates = count(v, t.candidates);
     let page_had_candidate = page_candidate(volume, case, t.page_had_candidate);
     let troubled = trouble(standing, t.troubled);
     let refused = either(refused(standing), t.refused);

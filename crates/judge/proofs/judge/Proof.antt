@@ -46,9 +46,9 @@ use Rattle.verdict.specs.declared.verdict.PairVerdict.{PairVerdict}
 use Rattle.judge.specs.declared.PairRead.{PairRead}
 use Rattle.judge.specs.declared.Progress.{Progress}
 use Rattle.judge.specs.declared.frames.Judged.{Judged}
-use Rattle.judge.specs.Sweep.{counted, sweptRow, sweptVerdicts, finished}
+use Rattle.judge.specs.Sweep.{sweptRow, sweptVerdicts, finished}
 use Rattle.judge.proofs.LendLaws.{LentAgain, lends-again, comes-back}
-use Rattle.judge.proofs.SweepLaws.{start, numbers, kept, judged, firsts, settled, lasts as finals, start-counted, numbers-counted-none, judged-counted, start-fits, numbers-count, judged-count, passes-judge}
+use Rattle.judge.proofs.SweepLaws.{start, numbers, kept, judged, firsts, settled, lasts as finals, start-fits, numbers-count, judged-count, passes-judge}
 use Rattle.judge.proofs.WalkLaws.{Content, empty, holds, cells, rights, env, Plainly, allocates, frees-all, local-of, field-of, behind, sets, lends, owns-it, calls-for}
 use Rattle.judge.proofs.RowTypes.{RP, RV, RS, sval, pairs-ty, out-ty, progress}
 use Rattle.judge.proofs.Progress.Laws as S′
@@ -216,7 +216,6 @@ module _ {M : Type 1} (𝓤 : URA M) (H : Heap 𝓤) (A : Atoms 𝓤) (W : Given
     pub good : Is RS s (sval s ∷ [])
     pub in-pairs : s .count ≤ length ps
     pub in-out : s .count ≤ length zs
-    pub none : counted pass s ≤ 0
 
   -- ---- a call of `sweep`: the verdicts are lent again for a lifetime ν of the call, under the name δ, and come back
 
@@ -248,7 +247,7 @@ module _ {M : Type 1} (𝓤 : URA M) (H : Heap 𝓤) (A : Atoms 𝓤) (W : Given
         → ent 𝓤 (⋆ 𝓤 H A (‵ (flft κ q) ∷ ‵ (flft (ν ∷ []) fullShare) ∷ ‵ OwnPairs ∷ ‵ (Lent (ν ∷ []) δ zs (length ys)) ∷ [])) (Asked ν δ)
     goes ν δ =
         qed W (‵ (flft κ q) ∷ ‵ (flft (ν ∷ []) fullShare) ∷ ‵ OwnPairs ∷ ‵ (Lent (ν ∷ []) δ zs (length ys)) ∷ []) ∵
-        says ! (ready .in-pairs, ready .in-out, ready .none) $ nothing ! $ move ! (1 ∷ 2 ∷ 0 ∷ []) $ group ! 3 $ frame ! $
+        says ! (ready .in-pairs, ready .in-out) $ nothing ! $ move ! (1 ∷ 2 ∷ 0 ∷ []) $ group ! 3 $ frame ! $
         nothing ! $ owns-it (progress W) ! s (ready .good) $ fjoin ! $
         owned ! u8 (Is u8) (uint-makes 𝓤 H A W w8) pass _ (refl, small) $ fjoin ! $
         move ! (2 ∷ 0 ∷ []) $ fjoin ! $ move ! (1 ∷ 0 ∷ []) $ fjoin ! $ done !
@@ -333,7 +332,6 @@ module _ {M : Type 1} (𝓤 : URA M) (H : Heap 𝓤) (A : Atoms 𝓤) (W : Given
     good = good;
     in-pairs = start-fits ps ys clean .0;
     in-out = start-fits ps ys clean .1;
-    none = start-counted ps ys clean;
   }
 
   ready₁ : Is RS s₁ (sval s₁ ∷ []) → length z₁ ≡ length ys → Ready 1 s₁ z₁
@@ -342,7 +340,6 @@ module _ {M : Type 1} (𝓤 : URA M) (H : Heap 𝓤) (A : Atoms 𝓤) (W : Given
     good = good;
     in-pairs = omega (arith, numbers-count ps ys clean, start-fits ps ys clean .0);
     in-out = omega (arith, numbers-count ps ys clean, start-fits ps ys clean .1, long);
-    none = numbers-counted-none ps ys clean;
   }
 
   ready₂ : Is RS s₂ (sval s₂ ∷ []) → length z₂ ≡ length ys → Ready 2 s₂ z₂
@@ -351,7 +348,6 @@ module _ {M : Type 1} (𝓤 : URA M) (H : Heap 𝓤) (A : Atoms 𝓤) (W : Given
     good = good;
     in-pairs = omega (arith, judged-count ps ys clean, start-fits ps ys clean .0);
     in-out = omega (arith, judged-count ps ys clean, start-fits ps ys clean .1, long);
-    none = judged-counted ps ys clean;
   }
 
   -- ---- the calls by value: what is asked, and what is said of the answer

@@ -25,7 +25,7 @@ returns c =
     let tallied = c .before .before in
     let judged = tallied .before in
     let verdict = judged .pair-verdict .ensures in
-    simp (c .carried .ensures, c .before .volume-verdict .ensures, tallied .tallied .ensures .0, verdict, judged .before .pair-case .ensures)
+    simp (c .carried .ensures, c .before .volume-verdict .ensures, tallied .tallied .ensures, verdict, judged .before .pair-case .ensures)
 
 pub judge-pair-spec : {M : Type 1} → statement M
 judge-pair-spec =

@@ -12,7 +12,7 @@ carried-requires c κs = search needs
 
 returns : tie.Need-returns
 unfolding numberPair
-returns c = simp (c .carried .ensures, c .before .before .before .note-pair .ensures .0)
+returns c = simp (c .carried .ensures, c .before .before .before .note-pair .ensures)
 
 pub number-pair-spec : {M : Type 1} → statement M
 number-pair-spec = tie.close (tie.spec note-pair-requires carried-requires returns)

@@ -1,8 +1,6 @@
--- `step` meets its contract, by the pass; what it counts stays in its type.
-use native.Mathlib.Omega.{arith}
+-- `step` meets its contract, by the pass.
 use borrow.Author.Tests.{eq-eqb, ne-eqb}
 use Rattle.judge.specs.Sweep.{stepped}
-use Rattle.judge.proofs.SweepLaws.{numbers-counted, first-counted}
 use borrow.Author.Needs.{needs}
 use Rattle.judge.proofs.step.Statement.{statement}
 use Rattle.judge.proofs.step.Tie as tie
@@ -11,10 +9,7 @@ pair-read-requires : tie.Need-pair-read-requires
 pair-read-requires c κs = search needs
 
 number-pair-requires : tie.Need-number-pair-requires
-number-pair-requires c κs =
-    let start = c .before .before in
-    let bound = rw (numbers-counted (start .args .pass) (start .args .s) (c .before .if1 .taken)) at (start .pre .0) in
-    omega (arith, bound, start .pre .1)
+number-pair-requires c κs = search needs
 
 returns : tie.Need-returns
 unfolding stepped
@@ -25,10 +20,7 @@ pair-read-requires-2 : tie.Need-pair-read-requires-2
 pair-read-requires-2 c κs = search needs
 
 judge-pair-requires : tie.Need-judge-pair-requires
-judge-pair-requires c κs =
-    let start = c .before .before .before in
-    let bound = rw (first-counted (start .args .pass) (start .args .s) (c .before .if2 .taken)) at (start .pre .0) in
-    omega (arith, bound, start .pre .1)
+judge-pair-requires c κs = search needs
 
 returns-2 : tie.Need-returns-2
 unfolding stepped

@@ -24,7 +24,7 @@ use prog.Wp.{Heap, Out, Env, afterSeq, afterBlock, afterTurn, Calls, Loops, Wp, 
 use ghost.Atoms.{Atoms, sem}
 use contract.Monad.{Fun, fact}
 use contract.Running.{givenOf, tables, tablesOf}
-use types.Kit.{Given, Item, ‵, raw, _⊛_, ⋆, mean, some, later, anyQ, atRet, runs, Sq, _$_, _∵_, !, qed, by, move, keep, group, drop, use1, use3, split, pick, fsplit, fjoin, suffices, frame, await, updating, now as at-once, show, done}
+use types.Kit.{Given, Item, ‵, raw, _⊛_, ⋆, mean, some, later, anyQ, atRet, runs, Sq, _$_, _∵_, !, qed, by, move, keep, group, drop, use1, use3, split, pick, join, fsplit, fjoin, suffices, frame, await, updating, now as at-once, show, done}
 use types.Run.{look, store, init, lit, of-opd, bin, and-then, no-more, assigns-last, from, stop, land, stays, leaves-loop, first, blocks, again, Below, returns, enter, params1, pass1, pass0, exec}
 use types.Share.{arr-parts}
 use sound.Loop.{loop-rule}
@@ -57,10 +57,10 @@ use Rattle.verdict.specs.Verdict.{noWinner}
 use Rattle.judge.specs.declared.PairRead.{PairRead}
 use Rattle.judge.specs.declared.Progress.{Progress}
 use Rattle.judge.specs.declared.Stepped.{Stepped}
-use Rattle.judge.specs.Sweep.{stepped, counted, rowFromPair, verdictsFromPair, sweptRow, sweptVerdicts}
-use Rattle.judge.proofs.SweepLaws.{noPair, step-counted, row-next, verdicts-next, row-done, verdicts-done}
+use Rattle.judge.specs.Sweep.{stepped, rowFromPair, verdictsFromPair, sweptRow, sweptVerdicts}
+use Rattle.judge.proofs.SweepLaws.{noPair, row-next, verdicts-next, row-done, verdicts-done}
 use Rattle.judge.proofs.WalkLaws.{Content, empty, holds, cells, rights, env, allocates, frees-all, forgets, local-of, field-of, known, sets, addresses, owns-it, loads, stores, calls-for}
-use Rattle.judge.proofs.RowTypes.{RP, RV, RS, RN, pval, vval, sval, nval, pairs-ty, out-ty, pair, verdict, progress, stepped-on, pair-size, verdict-size, index-small}
+use Rattle.judge.proofs.RowTypes.{RP, RV, RS, RN, pval, vval, sval, nval, pairs-ty, out-ty, pair, verdict, progress, stepped-on, pair-size, verdict-size}
 use Rattle.judge.proofs.PairRead as P
 use Rattle.judge.proofs.PairRead.Laws as P′
 use Rattle.verdict.proofs.verdict.PairVerdict.Laws as X′
@@ -162,7 +162,7 @@ module _ {M : Type 1} (𝓤 : URA M) (H : Heap 𝓤) (A : Atoms 𝓤) (mem : Mem
 
 -- What the contract asks.
 abbrev Required : List PairRead → List PairVerdict → ℕ → Progress → Type 0
-Required ps ys pass start = (start .count ≤ length ps) × (start .count ≤ length ys) × (counted pass start ≤ 0)
+Required ps ys pass start = (start .count ≤ length ps) × (start .count ≤ length ys)
 
 -- Stands for the verdict at an index that a row does not have.
 abbrev noVerdict : PairVerdict
@@ -176,7 +176,6 @@ pub record At (ps : List PairRead) (ys : List PairVerdict) (pass : ℕ) (start :
   pub within : i ≤ start .count
   pub long : length zs ≡ length ys
   pub good : Is RS s (sval s ∷ [])
-  pub small : counted pass s ≤ 2 * i
   pub row-left : rowFromPair pass s i (dropN i (take (start .count) ps)) zs ≡ sweptRow pass start ps ys
   pub verdicts-left : verdictsFromPair pass s i (dropN i (take (start .count) ps)) zs ≡ sweptVerdicts pass start ps ys
 
@@ -342,14 +341,11 @@ module _ {M : Type 1} (𝓤 : URA M) (H : Heap 𝓤) (A : Atoms 𝓤) (W : Given
       verdict-offset : Fits w64 (at .i * verdict-size)
       verdict-offset = scaled-fits (at .i) (length ys) verdict-size (omega (arith, more, required .1)) (gv .1)
 
-      index-fits : at .i < 2 ^ 60
-      index-fits = index-small (length ps) (at .i) (gp .1) in-pairs
+      index-fits : at .i < 2 ^ 64
+      index-fits = omega (arith, more, gn)
 
       next-fits : Fits w64 (at .i + 1)
-      next-fits = record { fits = omega (arith, index-fits) }
-
-      next-small : counted pass (new .progress) ≤ 2 * (at .i + 1)
-      next-small = omega (arith, step-counted pass (at .s) (at .i) p v, at .small)
+      next-fits = record { fits = omega (arith, more, gn) }
 
       module _ (good : Is RN new (nval new ∷ [])) where
         progress-good : Is RS (new .progress) (sval (new .progress) ∷ [])
@@ -366,7 +362,6 @@ module _ {M : Type 1} (𝓤 : URA M) (H : Heap 𝓤) (A : Atoms 𝓤) (W : Given
           within = omega (arith, more);
           long = length-set (at .zs) (at .i) (new .verdict) ∙ at .long;
           good = progress-good;
-          small = next-small;
           row-left = sym (row-next ps n (at .i) (required .0) pass (at .s) (at .zs) more) ∙ at .row-left;
           verdicts-left = sym (verdicts-next ps n (at .i) (required .0) pass (at .s) (at .zs) more) ∙ at .verdicts-left;
         }
@@ -386,10 +381,10 @@ module _ {M : Type 1} (𝓤 : URA M) (H : Heap 𝓤) (A : Atoms 𝓤) (W : Given
 
       asked : Is RP p (pval p ∷ []) → Is RV v (vval v ∷ []) → ent 𝓤 (emp 𝓤) (Step 𝓤 H A mem run .pre to-step)
       asked p-good v-good =
-          qed W [] ∵ says ! (at .small, index-fits) $ nothing ! $ frame ! $ nothing ! $
+          qed W [] ∵ nothing ! $
           owns-it (verdict W) ! v v-good $ fjoin ! $ owns-it (pair W) ! p p-good $ fjoin ! $
-          owned ! usize (Is usize) (uint-makes 𝓤 H A W w64) (at .i) _ (refl, omega (arith, index-fits)) $ fjoin ! $
-          owns-it (progress W) ! (at .s) (at .good) $ fjoin ! $ owned ! u8 (Is u8) (uint-makes 𝓤 H A W w8) pass _ (refl, gpass) $ fjoin ! $ done !
+          owned ! usize (Is usize) (uint-makes 𝓤 H A W w64) (at .i) _ (refl, index-fits) $ fjoin ! $
+          owns-it (progress W) ! (at .s) (at .good) $ fjoin ! $ owned ! u8 (Is u8) (uint-makes 𝓤 H A W w8) pass _ (refl, gpass) $ fjoin ! $ nothing ! $ join ! $ frame ! $ done !
 
       abbrev Answers : Stepped → SProp 𝓤
       Answers z = ensured 𝓤 H A step′.ended (step′.clauses 𝓤 H A mem run) tt args tt z
@@ -470,7 +465,7 @@ module _ {M : Type 1} (𝓤 : URA M) (H : Heap 𝓤) (A : Atoms 𝓤) (W : Given
 
     first-turn : At ps ys pass start
     first-turn =
-        record { i = 0; s = start; zs = ys; within = omega arith; long = refl; good = gs; small = required .2; row-left = refl; verdicts-left = refl }
+        record { i = 0; s = start; zs = ys; within = omega arith; long = refl; good = gs; row-left = refl; verdicts-left = refl }
 
     all-turns : Sq W (Rows ys ++ cells locals l (contents 0 start)) (runs C Λ En (loop mirs.turn-1) (anyQ Left))
     unfolding first-turn

@@ -18,14 +18,13 @@ use Rattle.judge.proofs.frames.first_pass.Tie as tie
 abbrev Inv-loop : tie.InvT-loop
 Inv-loop frames n m t₀ i₀ t i =
     (i ≤ n)
-    × (t .candidates ≤ i)
     × (tallies m (eqb i 0) t (rowFrom n frames i) ≡ tallies m true noTally (row n frames))
 
 abbrev μ-loop : tie.MeasureT-loop
 μ-loop frames n m t₀ i₀ t i = n - i
 
 loop-holds : tie.Need-loop-holds Inv-loop μ-loop
-loop-holds c = (omega arith, omega arith, simp row-start)
+loop-holds c = (omega arith, simp row-start)
 
 mul-pair-from : tie.Need-mul-pair-from Inv-loop μ-loop
 mul-pair-from c = omega arith
@@ -49,7 +48,7 @@ pair-verdict-requires : tie.Need-pair-verdict-requires Inv-loop μ-loop
 pair-verdict-requires c κs = search needs
 
 tallied-requires : tie.Need-tallied-requires Inv-loop μ-loop
-tallied-requires c κs = omega arith
+tallied-requires c κs = search needs
 
 add-i : tie.Need-add-i Inv-loop μ-loop
 add-i c = omega arith
@@ -64,14 +63,14 @@ loop-again c =
     let case = rw (c .before .before .before .pair-from .ensures, part-rest) at (c .before .before .pair-case .ensures) in
     let verdict = rw case at (c .before .pair-verdict .ensures) in
     let later : (l .i + 1 ≡ 0 → ⊥) = omega arith in
-    let left = rw (row-step (a .n) (now (a .frames)) (l .i) (c .before .before .before .before .before .loop-test .taken)) at (l .inv .2) in
-    (omega arith, omega arith, rw (ne-eqb (l .i + 1) 0 later, c .tallied .ensures .0, verdict, case) left)
+    let left = rw (row-step (a .n) (now (a .frames)) (l .i) (c .before .before .before .before .before .loop-test .taken)) at (l .inv .1) in
+    (omega arith, rw (ne-eqb (l .i + 1) 0 later, c .tallied .ensures, verdict, case) left)
 
 returns : tie.Need-returns Inv-loop μ-loop
 returns c =
     let a = c .before .before .before .args in
     let l = c .before .loop in
-    rw (row-end (a .n) (now (a .frames)) (l .i) (c .loop-test .left)) at (l .inv .2)
+    rw (row-end (a .n) (now (a .frames)) (l .i) (c .loop-test .left)) at (l .inv .1)
 
 pub first-pass-spec : {M : Type 1} → statement M
 first-pass-spec =

@@ -1,10 +1,11 @@
 -- `maxima_of` meets its contract: noting the pairs that are left gives the maxima of all.
 use mathlib.Core.Path.{_≡_}
-use Prim.Native.Nat.{_≤_, _-_, _*_}
+use Prim.Native.Nat.{_≤_, _-_}
 use native.Mathlib.Omega.{arith}
 use lib.ListN.{length-drop}
 use denote.Ref.{now}
 use Rattle.codec.proofs.CursorLaws.{part-rest}
+use borrow.Author.Needs.{needs}
 use Rattle.judge.specs.Frames.{row}
 use Rattle.verdict.specs.Numbers.{slots}
 use Rattle.verdict.specs.Maxima.{noteAll, noMaxima}
@@ -15,14 +16,13 @@ use Rattle.judge.proofs.frames.maxima_of.Tie as tie
 abbrev Inv-loop : tie.InvT-loop
 Inv-loop frames n m₀ i₀ m i =
     (i ≤ n)
-    × (m .«max1_count» ≤ 2 * i)
     × (noteAll m (slots (rowFrom n frames i)) ≡ noteAll noMaxima (slots (row n frames)))
 
 abbrev μ-loop : tie.MeasureT-loop
 μ-loop frames n m₀ i₀ m i = n - i
 
 loop-holds : tie.Need-loop-holds Inv-loop μ-loop
-loop-holds c = (omega arith, omega arith, simp row-start)
+loop-holds c = (omega arith, simp row-start)
 
 mul-pair-from : tie.Need-mul-pair-from Inv-loop μ-loop
 mul-pair-from c = omega arith
@@ -40,7 +40,7 @@ pair-from-requires : tie.Need-pair-from-requires Inv-loop μ-loop
 pair-from-requires c κs = simp (part-rest, length-drop) (omega arith)
 
 note-pair-requires : tie.Need-note-pair-requires Inv-loop μ-loop
-note-pair-requires c κs = omega arith
+note-pair-requires c κs = search needs
 
 add-i : tie.Need-add-i Inv-loop μ-loop
 add-i c = omega arith
@@ -52,14 +52,14 @@ loop-again : tie.Need-loop-again Inv-loop μ-loop
 loop-again c =
     let a = c .before .before .before .before .before .before .args in
     let l = c .before .before .before .before .loop in
-    let left = rw (row-step (a .n) (now (a .frames)) (l .i) (c .before .before .before .loop-test .taken)) at (l .inv .2) in
-    (omega arith, omega arith, rw (c .note-pair .ensures .0, c .before .pair-from .ensures, part-rest) left)
+    let left = rw (row-step (a .n) (now (a .frames)) (l .i) (c .before .before .before .loop-test .taken)) at (l .inv .1) in
+    (omega arith, rw (c .note-pair .ensures, c .before .pair-from .ensures, part-rest) left)
 
 returns : tie.Need-returns Inv-loop μ-loop
 returns c =
     let a = c .before .before .before .args in
     let l = c .before .loop in
-    rw (row-end (a .n) (now (a .frames)) (l .i) (c .loop-test .left)) at (l .inv .2)
+    rw (row-end (a .n) (now (a .frames)) (l .i) (c .loop-test .left)) at (l .inv .1)
 
 pub maxima-of-spec : {M : Type 1} → statement M
 maxima-of-spec =

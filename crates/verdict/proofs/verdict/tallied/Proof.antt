@@ -3,6 +3,9 @@ use borrow.Author.Needs.{needs}
 use Rattle.verdict.proofs.verdict.tallied.Statement.{statement}
 use Rattle.verdict.proofs.verdict.tallied.Tie as tie
 
+count-requires : tie.Need-count-requires
+count-requires c κs = search needs
+
 page-candidate-requires : tie.Need-page-candidate-requires
 page-candidate-requires c κs = search needs
 
@@ -17,12 +20,21 @@ either-requires c κs = search needs
 
 returns : tie.Need-returns
 returns c =
-    simp (c .before .before .before .page-candidate .ensures, c .before .before .trouble .ensures, c .either .ensures, c .before .refused .ensures)
+    let troubled = c .before .before in
+    let paged = troubled .before in
+    simp (
+      paged .before .count .ensures,
+      paged .page-candidate .ensures,
+      troubled .trouble .ensures,
+      c .before .refused .ensures,
+      c .either .ensures,
+    )
 
 pub tallied-spec : {M : Type 1} → statement M
 tallied-spec =
     tie.close
     (tie.spec
+    count-requires
     page-candidate-requires
     trouble-requires
     refused-requires

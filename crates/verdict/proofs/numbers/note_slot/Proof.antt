@@ -1,9 +1,9 @@
 -- `note_slot` meets its contract: a slot that is numbered, and one that is not.
 use mathlib.Core.Path.{sym, ap, _∙_}
 use borrow.Author.Needs.{needs}
 use Rattle.verdict.specs.Maxima.{noteSeq}
-use Rattle.judge.proofs.note_slot.Statement.{statement}
-use Rattle.judge.proofs.note_slot.Tie as tie
+use Rattle.verdict.proofs.numbers.note_slot.Statement.{statement}
+use Rattle.verdict.proofs.numbers.note_slot.Tie as tie
 
 numbered-requires : tie.Need-numbered-requires
 numbered-requires c κs = search needs
