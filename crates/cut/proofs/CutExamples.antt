@@ -27,7 +27,7 @@ use Rattle.encode.proofs.RoundTrip.{written, encode-valid, encode-payload}
 use Rattle.pair.specs.Pair.{winnerInfo}
 use Rattle.pair.specs.declared.pair.WinnerInfo.{WinnerInfo}
 use Rattle.frame.specs.declared.frame.SlotPart.{SlotPart}
-use Rattle.verdict.specs.Numbers.{slots, highest}
+use Rattle.candidate.specs.Numbers.{slots, highest}
 use Rattle.judge.specs.Frames.{verdictWidth}
 use Rattle.region.specs.Block.{clamp, blockSize, entriesPerPage}
 use Rattle.volume_base.specs.Base.{baseCheck, decodeBase, baseBytes}

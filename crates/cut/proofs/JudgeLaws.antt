@@ -10,7 +10,7 @@ use Rattle.slot.specs.Status.{other}
 use Rattle.slot.specs.declared.slot.SlotIndex.{SlotIndex}
 use Rattle.verdict.specs.Verdict.{standingBeside, winnerBeside, isInFlight, inFlight}
 use Rattle.verdict.specs.Judge.{firstVerdicts, volumeVerdict, count, candidates, anyTrouble, anyRefused, firstTally, cleanMark, storeRules, demoted, lastVerdicts, healOf, heal, writable, rowRules, verdicts, judgeRow}
-use Rattle.verdict.specs.declared.pairs.PairPart.{PairPart}
+use Rattle.candidate.specs.declared.pairs.PairPart.{PairPart}
 use Rattle.verdict.specs.declared.verdict.SlotVerdict.{SlotVerdict}
 use Rattle.verdict.specs.declared.verdict.Standing.{Standing}
 use Rattle.verdict.specs.declared.verdict.PairVerdict.{PairVerdict}

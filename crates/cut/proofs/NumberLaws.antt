@@ -11,10 +11,10 @@ use lib.Seq.{take-append-add, drop-append-add}
 use Rattle.slot.specs.Status.{other}
 use Rattle.slot.specs.declared.slot.SlotIndex.{SlotIndex}
 use Rattle.frame.specs.declared.frame.SlotPart.{SlotPart}
-use Rattle.verdict.specs.Pairs.{numbered}
-use Rattle.verdict.specs.Numbers.{slots, number, highest, highestOther, qualifies}
+use Rattle.candidate.specs.Pairs.{numbered}
+use Rattle.candidate.specs.Numbers.{slots, number, highest, highestOther, qualifies}
 use Rattle.verdict.specs.Verdict.{byIndex}
-use Rattle.verdict.specs.declared.pairs.MetaSeq.{MetaSeq}
+use Rattle.candidate.specs.declared.pairs.MetaSeq.{MetaSeq}
 use Rattle.cut.specs.Store.{Pair, pairPart, parts}
 use Rattle.cut.proofs.PairLaws.{partAt}
 

@@ -20,13 +20,13 @@ use Rattle.pair.specs.declared.pair.WinnerInfo.{WinnerInfo}
 use Rattle.winner.specs.Winner.{readPair, winnerBytes}
 use Rattle.frame.specs.Frame.{failedPart}
 use Rattle.frame.specs.declared.frame.SlotPart.{SlotPart}
-use Rattle.verdict.specs.Pairs.{numbered, badPayload, badHeader, blank, oppositeSlot, unsupported, newer, pairCase}
-use Rattle.verdict.specs.Numbers.{number}
+use Rattle.candidate.specs.Pairs.{numbered, badPayload, badHeader, blank, oppositeSlot, unsupported, newer, pairCase}
+use Rattle.candidate.specs.Numbers.{number}
 use Rattle.verdict.specs.Verdict.{byIndex, winnerBeside, pairVerdict}
-use Rattle.verdict.specs.declared.pairs.PairPart.{PairPart}
-use Rattle.verdict.specs.declared.pairs.MetaSeq.{MetaSeq}
-use Rattle.verdict.specs.declared.pairs.Opposite.{Opposite}
-use Rattle.verdict.specs.declared.pairs.PairCase.{PairCase}
+use Rattle.candidate.specs.declared.pairs.PairPart.{PairPart}
+use Rattle.candidate.specs.declared.pairs.MetaSeq.{MetaSeq}
+use Rattle.candidate.specs.declared.pairs.Opposite.{Opposite}
+use Rattle.candidate.specs.declared.pairs.PairCase.{PairCase}
 use Rattle.verdict.specs.declared.verdict.SlotVerdict.{SlotVerdict}
 use Rattle.cut.specs.Store.{Slot, Pair, accepts, slotAt, status, report, filled, slotPart, pairPart, lastRecord, Beside, SoundPair}
 use Rattle.cut.proofs.JudgeLaws.{Explained}

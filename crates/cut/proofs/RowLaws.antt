@@ -12,13 +12,13 @@ use Rattle.slot.specs.declared.slot.ValidInfo.{ValidInfo}
 use Rattle.slot.specs.declared.slot.HeaderFacts.{HeaderFacts}
 use Rattle.frame.specs.Frame.{partBy}
 use Rattle.frame.specs.declared.frame.SlotPart.{SlotPart}
-use Rattle.verdict.specs.Pairs.{numbered, badPayload, badHeader, oppositeSlot, unsupported, pairCase, hasCandidate}
-use Rattle.verdict.specs.Numbers.{slots, number, highest, highestOther, qualifies}
+use Rattle.candidate.specs.Pairs.{numbered, badPayload, badHeader, oppositeSlot, unsupported, pairCase, hasCandidate}
+use Rattle.candidate.specs.Numbers.{slots, number, highest, highestOther, qualifies}
 use Rattle.verdict.specs.Verdict.{byIndex, pairVerdict}
 use Rattle.verdict.specs.Judge.{verdictsFrom, firstVerdicts, anyCandidate, pageCandidate, firstTally, rowRules, verdicts, judgeRow}
-use Rattle.verdict.specs.declared.pairs.PairPart.{PairPart}
-use Rattle.verdict.specs.declared.pairs.PairCase.{PairCase}
-use Rattle.verdict.specs.declared.pairs.MetaSeq.{MetaSeq}
+use Rattle.candidate.specs.declared.pairs.PairPart.{PairPart}
+use Rattle.candidate.specs.declared.pairs.PairCase.{PairCase}
+use Rattle.candidate.specs.declared.pairs.MetaSeq.{MetaSeq}
 use Rattle.verdict.specs.declared.verdict.PairVerdict.{PairVerdict}
 use Rattle.judge.specs.Row.{partRead, rowRead, refusedRow, rowJudged, rowVerdicts}
 use Rattle.judge.specs.declared.frames.Judged.{Judged}

@@ -10,11 +10,11 @@ use lib.ListN.{length, length-append}
 use Rattle.slot.specs.Status.{other}
 use Rattle.slot.specs.declared.slot.SlotIndex.{SlotIndex}
 use Rattle.frame.specs.declared.frame.SlotPart.{SlotPart}
-use Rattle.verdict.specs.Pairs.{numbered, pairCase}
-use Rattle.verdict.specs.Numbers.{slots, number, qualifies}
+use Rattle.candidate.specs.Pairs.{numbered, pairCase}
+use Rattle.candidate.specs.Numbers.{slots, number, qualifies}
 use Rattle.verdict.specs.Verdict.{verdictBytes, winnerBeside, pairVerdict, isInFlight}
 use Rattle.verdict.specs.Judge.{verdictsFrom, firstVerdicts, volumeVerdict, cleanMark as markCounts, verdicts, judgeRow}
-use Rattle.verdict.specs.declared.pairs.MetaSeq.{MetaSeq}
+use Rattle.candidate.specs.declared.pairs.MetaSeq.{MetaSeq}
 use Rattle.verdict.specs.declared.verdict.SlotVerdict.{SlotVerdict}
 use Rattle.verdict.specs.declared.verdict.PairVerdict.{PairVerdict}
 use Rattle.verdict.specs.declared.verdict.Heal.{Heal}

@@ -23,7 +23,7 @@ use Rattle.slot.specs.declared.slot.Parsed.{Parsed}
 use Rattle.slot.proofs.ReadLaws.{length-room}
 use Rattle.slot.proofs.SlotLaws.{parse-same}
 use Rattle.encode.proofs.EncodeLaws.{infoOf, parse-written}
-use Rattle.verdict.specs.declared.pairs.MetaSeq.{MetaSeq}
+use Rattle.candidate.specs.declared.pairs.MetaSeq.{MetaSeq}
 use Rattle.verdict.specs.declared.verdict.SlotVerdict.{SlotVerdict}
 use Rattle.cut.specs.Store.{Pair, accepts, slotAt, status, lastRecord, SoundPair}
 use Rattle.cut.specs.Cut.{Write, size, expect, old, new, withSlot, CorrectWrite, standsWhole, headerPasses, payloadIn, Accident}

@@ -23,7 +23,7 @@ use Rattle.slot.specs.declared.slot.Expect.{Expect}
 use Rattle.pair.specs.Pair.{winnerInfo}
 use Rattle.pair.specs.declared.pair.WinnerInfo.{WinnerInfo}
 use Rattle.winner.specs.Winner.{winnerBytes}
-use Rattle.verdict.specs.Numbers.{slots, highest}
+use Rattle.candidate.specs.Numbers.{slots, highest}
 use Rattle.verdict.specs.Verdict.{verdictBytes}
 use Rattle.verdict.specs.declared.verdict.Standing.{Standing}
 use Rattle.verdict.specs.declared.verdict.WinnerSlot.{WinnerSlot}

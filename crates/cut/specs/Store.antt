@@ -18,7 +18,7 @@ use Rattle.winner.specs.Winner.{readPair}
 use Rattle.frame.specs.Frame.{partOf}
 use Rattle.frame.specs.declared.frame.SlotPart.{SlotPart}
 use Rattle.verdict.specs.Verdict.{byIndex}
-use Rattle.verdict.specs.declared.pairs.PairPart.{PairPart}
+use Rattle.candidate.specs.declared.pairs.PairPart.{PairPart}
 use Rattle.judge.specs.Row.{framesOf}
 use Rattle.judge.specs.declared.SlotRead.{SlotRead}
 use Rattle.judge.specs.declared.PairRead.{PairRead}

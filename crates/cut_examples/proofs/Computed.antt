@@ -16,7 +16,7 @@ use Rattle.pair.specs.Pair.{decide, winnerInfo}
 use Rattle.winner.specs.Winner.{winnerBytes}
 use Rattle.frame.specs.Frame.{partFrom, partBytes}
 use Rattle.verdict.specs.declared.verdict.Heal.{Heal}
-use Rattle.verdict.specs.Pairs.{numbered, badPayload, badHeader, blank, oppositeSlot, unsupported, newer, pairCase}
+use Rattle.candidate.specs.Pairs.{numbered, badPayload, badHeader, blank, oppositeSlot, unsupported, newer, pairCase}
 use Rattle.verdict.specs.Judge.{firstVerdicts, firstTally, cleanMark, storeRules, demoted, healOf, writable, rowRules, verdicts, judgeRow}
 use Rattle.judge.specs.Frames.{pairFrom, partInRange, pairInRange, refusal, judged, judgedBytes}
 use Rattle.judge.specs.Row.{framesOf, markOf}

@@ -14,7 +14,7 @@ use Rattle.pair.specs.Pair.{decide, winnerInfo}
 use Rattle.winner.specs.Winner.{readPair, winnerBytes}
 use Rattle.frame.specs.Frame.{partBytes}
 use Rattle.frame.specs.declared.frame.SlotPart.{SlotPart}
-use Rattle.verdict.specs.declared.pairs.PairPart.{PairPart}
+use Rattle.candidate.specs.declared.pairs.PairPart.{PairPart}
 use Rattle.verdict.specs.declared.verdict.Heal.{Heal}
 use Rattle.judge.specs.Frames.{judged, judgedBytes}
 use Rattle.judge.specs.Row.{partRead, framesOf, markOf}

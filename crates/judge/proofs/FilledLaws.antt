@@ -12,10 +12,10 @@ use lib.Seq.{drop-drop}
 use Rattle.frame.specs.Frame.{partWidth, partBytes, partFrom}
 use Rattle.frame.specs.declared.frame.SlotPart.{SlotPart}
 use Rattle.frame.proofs.PartLaws.{PartFits, part-read, length-part, part-next}
-use Rattle.verdict.specs.declared.pairs.PairPart.{PairPart}
+use Rattle.candidate.specs.declared.pairs.PairPart.{PairPart}
 use Rattle.verdict.specs.Verdict.{verdictBytes}
 use Rattle.verdict.specs.Judge.{verdicts, judgeRow}
-use Rattle.verdict.proofs.NumberLaws.{same-test}
+use Rattle.candidate.proofs.NumberLaws.{same-test}
 use Rattle.judge.specs.declared.frames.Judged.{Judged}
 use Rattle.judge.specs.Frames.{frameWidth, verdictWidth, pairs, pairFrom, row, partInRange, pairInRange, inRange, refusal, judged, judgedBytes}
 use Rattle.judge.specs.Row.{refusedRow, framesOf, markOf}

@@ -9,7 +9,7 @@ use Rattle.frame.specs.Frame.{partFrom}
 use Rattle.codec.specs.Bytes.{le}
 use Rattle.verdict.specs.declared.verdict.Heal.{Heal}
 use Rattle.judge.specs.declared.frames.Judged.{Judged}
-use Rattle.verdict.specs.Pairs.{numbered, badPayload, badHeader, blank, oppositeSlot, unsupported, newer, pairCase}
+use Rattle.candidate.specs.Pairs.{numbered, badPayload, badHeader, blank, oppositeSlot, unsupported, newer, pairCase}
 use Rattle.verdict.specs.Judge.{firstVerdicts, firstTally, cleanMark, storeRules, demoted, healOf, writable, rowRules, verdicts, judgeRow}
 use Rattle.judge.specs.Frames.{pairFrom, partInRange, pairInRange, refusal, judged, judgedBytes}
 

@@ -12,7 +12,7 @@ use lib.Seq.{drop-drop, take-at, length-take-le}
 use borrow.Author.Tests.{eqb-true, eqb-false}
 use borrow.Rule.Slice.PartMut.{putMid}
 use Rattle.codec.proofs.CursorLaws.{part-rest}
-use Rattle.verdict.specs.declared.pairs.PairPart.{PairPart}
+use Rattle.candidate.specs.declared.pairs.PairPart.{PairPart}
 use Rattle.verdict.specs.declared.verdict.PairVerdict.{PairVerdict}
 use Rattle.verdict.specs.Verdict.{verdictBytes}
 use Rattle.judge.specs.Frames.{frameWidth, verdictWidth, pairs, pairFrom, row, inRange, refusal}

@@ -10,12 +10,12 @@ use lib.Dec.{eqb}
 use lib.ListN.{length, getD, set, take, drop, length-take, length-append, drop-of-length-le}
 use lib.Seq.{drop-cons, getD-take, set-getD, getD-append-seam, set-append-seam, take-all}
 use borrow.Author.Tests.{ne-eqb, eqb-true, eqb-false}
-use Rattle.verdict.specs.declared.pairs.PairPart.{PairPart}
-use Rattle.verdict.specs.declared.numbers.Maxima.{Maxima}
+use Rattle.candidate.specs.declared.pairs.PairPart.{PairPart}
+use Rattle.candidate.specs.declared.numbers.Maxima.{Maxima}
 use Rattle.verdict.specs.declared.verdict.PairVerdict.{PairVerdict}
 use Rattle.verdict.specs.declared.verdict.Standing.{Standing}
-use Rattle.verdict.specs.Numbers.{slots}
-use Rattle.verdict.specs.Maxima.{noteAll}
+use Rattle.candidate.specs.Numbers.{slots}
+use Rattle.candidate.specs.Maxima.{noteAll}
 use Rattle.verdict.specs.Verdict.{noWinner}
 use Rattle.verdict.specs.Judge.{lastVerdicts, demoted, healOf, heal}
 use Rattle.verdict.specs.Passes.{verdictsBy, tallies}

@@ -8,7 +8,7 @@ use lib.Dec.{eqb, leb}
 use lib.ListN.{length, drop}
 use Rattle.frame.specs.declared.frame.SlotPart.{SlotPart}
 use Rattle.frame.specs.Frame.{partWidth, partFrom}
-use Rattle.verdict.specs.declared.pairs.PairPart.{PairPart}
+use Rattle.candidate.specs.declared.pairs.PairPart.{PairPart}
 use Rattle.judge.specs.declared.frames.Judged.{Judged}
 use Rattle.verdict.specs.Verdict.{verdictBytes}
 use Rattle.verdict.specs.Judge.{verdicts, judgeRow}

@@ -7,7 +7,7 @@ use lib.Dec.{eqb}
 use lib.ListN.{length}
 use Rattle.frame.specs.declared.frame.SlotPart.{SlotPart}
 use Rattle.frame.specs.Frame.{partOf, partBytes}
-use Rattle.verdict.specs.declared.pairs.PairPart.{PairPart}
+use Rattle.candidate.specs.declared.pairs.PairPart.{PairPart}
 use Rattle.verdict.specs.declared.verdict.PairVerdict.{PairVerdict}
 use Rattle.verdict.specs.Judge.{verdicts, judgeRow}
 use Rattle.judge.specs.declared.SlotRead.{SlotRead}

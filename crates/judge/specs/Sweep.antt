@@ -5,15 +5,15 @@ use mathlib.Core.List.{List, [], _∷_}
 use Prim.Native.Nat.{ℕ, _+_}
 use lib.Dec.{eqb}
 use lib.ListN.{getD, set, take}
-use Rattle.verdict.specs.declared.pairs.PairPart.{PairPart}
-use Rattle.verdict.specs.declared.numbers.Maxima.{Maxima}
+use Rattle.candidate.specs.declared.pairs.PairPart.{PairPart}
+use Rattle.candidate.specs.declared.numbers.Maxima.{Maxima}
 use Rattle.verdict.specs.declared.verdict.Heal.{Heal}
 use Rattle.verdict.specs.declared.verdict.PairVerdict.{PairVerdict}
 use Rattle.verdict.specs.declared.verdict.Standing.{Standing}
 use Rattle.verdict.specs.declared.verdict.StoreRules.{StoreRules}
 use Rattle.verdict.specs.declared.verdict.Tally.{Tally}
-use Rattle.verdict.specs.Pairs.{numbered, pairCase}
-use Rattle.verdict.specs.Maxima.{noMaxima, noteSeq, byMaxima}
+use Rattle.candidate.specs.Pairs.{numbered, pairCase}
+use Rattle.candidate.specs.Maxima.{noMaxima, noteSeq, byMaxima}
 use Rattle.verdict.specs.Verdict.{noWinner, pairVerdict}
 use Rattle.verdict.specs.Judge.{tallied, storeRules, demoted, healOf, writable}
 use Rattle.verdict.specs.Passes.{noTally}

@@ -14,13 +14,13 @@
 // | 0 | standing: 0 Confirmed, 1 Unconfirmed, 2 Lost, 3 Refused |
 // | 1 | winner: 0 none, 1 A, 2 B |
 // | 2, 3 | A, B: 0 Winner, 1 Nothing, 2 OlderDamaged, 3 InFlight, 4 Damage |
+use candidate::numbers::Maxima;
+use candidate::pairs::PairPart;
 use codec::codec::ReadU32;
 use codec::codec::ReadU64;
 use codec::codec::Reader;
 use frame::frame::SlotPart;
 use slot::slot::SlotIndex;
-use verdict::numbers::Maxima;
-use verdict::pairs::PairPart;
 use verdict::verdict::Heal;
 use verdict::verdict::Judgement;
 use verdict::verdict::PairVerdict;
@@ -35,8 +35,8 @@ ghost use Prim.Native.Nat.{_+_, _*_, _≤_, _<_};
 ghost use lib.ListN.{length, drop};
 ghost use Rattle.codec.specs.Bytes.{le32, le64};
 ghost use Rattle.frame.specs.Frame.{partWidth, partFrom};
-ghost use Rattle.verdict.specs.Numbers.{slots};
-ghost use Rattle.verdict.specs.Maxima.{noMaxima, noteAll};
+ghost use Rattle.candidate.specs.Numbers.{slots};
+ghost use Rattle.candidate.specs.Maxima.{noMaxima, noteAll};
 ghost use Rattle.verdict.specs.Verdict.{standingNumber, winnerNumber, slotVerdictNumber, verdictBytes};
 ghost use Rattle.verdict.specs.Judge.{lastVerdicts, heal, verdicts, judgeRow};
 ghost use Rattle.verdict.specs.Passes.{verdictsBy, tallies, noTally};
@@ -214,7 +214,7 @@ fn maxima_of(frames: &[u8], n: usize) -> Maxima
     let mut i = 0;
     while i < n {
         let p = pair_from(&frames[i * FRAME..]);
-        m = verdict::numbers::note_pair(m, p);
+        m = candidate::numbers::note_pair(m, p);
         i += 1;
     }
     m
@@ -233,7 +233,7 @@ fn first_pass(frames: &[u8], n: usize, m: Maxima) -> Tally
     };
     let mut i = 0;
     while i < n {
-        let case = verdict::pairs::pair_case(pair_from(&frames[i * FRAME..]));
+        let case = candidate::pairs::pair_case(pair_from(&frames[i * FRAME..]));
         let v = verdict::verdict::pair_verdict(m, case);
         t = verdict::verdict::tallied(t, i == 0, case, v);
         i += 1;
@@ -250,7 +250,7 @@ fn second_pass(frames: &[u8], n: usize, m: Maxima, volume: bool, page: bool, out
     let mut found = Heal::Nothing;
     let mut i = 0;
     while i < n {
-        let case = verdict::pairs::pair_case(pair_from(&frames[i * FRAME..]));
+        let case = candidate::pairs::pair_case(pair_from(&frames[i * FRAME..]));
         let v = verdict::verdict::last_verdict(i == 0, m, case, volume, page);
         put_verdict(&mut out[i * VERDICT..], v);
         found = verdict::verdict::heal_of(i, found, v);
@@ -266,7 +266,7 @@ fn judge_pairs(frames: &[u8], n: usize, clean: bool, out: &mut [u8]) -> Judgemen
 {
     let m = maxima_of(frames, n);
     let t = first_pass(frames, n, m);
-    let volume = verdict::verdict::pair_verdict(m, verdict::pairs::pair_case(pair_from(frames)));
+    let volume = verdict::verdict::pair_verdict(m, candidate::pairs::pair_case(pair_from(frames)));
     let rules = verdict::verdict::store_rules(clean, t, volume);
     let volume_demote = rules.volume_demote;
     let page_demote = rules.page_demote;

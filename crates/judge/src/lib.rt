@@ -9,12 +9,12 @@
 // | 0 | counts its numbers | the highest numbers |
 // | 1 | writes its first verdict | the tally, and the volume record's verdict |
 // | 2 | writes its last verdict, by the rules of the store | the write to heal |
+use candidate::numbers::Maxima;
+use candidate::pairs::PairPart;
 use frame::frame::SlotPart;
 use frames::Judged;
 use slot::slot::HeaderFacts;
 use slot::slot::SlotStatus;
-use verdict::numbers::Maxima;
-use verdict::pairs::PairPart;
 use verdict::verdict::Heal;
 use verdict::verdict::Judgement;
 use verdict::verdict::PairVerdict;
@@ -111,7 +111,7 @@ fn carried(s: Progress, maxima: Maxima, tally: Tally, volume: PairVerdict, heal:
 fn number_pair(s: Progress, p: PairPart) -> Progress
     ensures { λ r. ⌜ r ≡ numberPair s p ⌝ }
 {
-    let maxima = verdict::numbers::note_pair(s.maxima, p);
+    let maxima = candidate::numbers::note_pair(s.maxima, p);
     let tally = s.tally;
     let volume = s.volume;
     let heal = s.heal;
@@ -132,7 +132,7 @@ fn judge_pair(s: Progress, first: bool, p: PairPart) -> Stepped
     let before = s.tally;
     let known = s.volume;
     let heal = s.heal;
-    let case = verdict::pairs::pair_case(p);
+    let case = candidate::pairs::pair_case(p);
     let verdict = verdict::verdict::pair_verdict(maxima, case);
     let tally = verdict::verdict::tallied(before, first, case, verdict);
     let volume = volume_verdict(first, verdict, known);

@@ -7,7 +7,7 @@ use Rattle.slot.specs.declared.slot.HeaderFacts.{HeaderFacts}
 use Rattle.slot.specs.declared.slot.SlotInfo.{SlotInfo}
 use Rattle.slot.specs.declared.slot.SlotStatus.{SlotStatus}
 use Rattle.frame.specs.declared.frame.SlotPart.{SlotPart}
-use Rattle.verdict.specs.declared.pairs.PairPart.{PairPart}
+use Rattle.candidate.specs.declared.pairs.PairPart.{PairPart}
 use Rattle.judge.specs.declared.SlotRead.{SlotRead}
 use Rattle.judge.specs.declared.PairRead.{PairRead}
 

@@ -12,10 +12,10 @@ use Rattle.slot.specs.Write.{encodeRefusal}
 use Rattle.slot.specs.declared.slot.SlotIndex.{SlotIndex}
 use Rattle.slot.specs.declared.slot.SlotFields.{SlotFields}
 use Rattle.frame.specs.declared.frame.SlotPart.{SlotPart}
-use Rattle.verdict.specs.Pairs.{numbered, badPayload, blank, oppositeSlot}
-use Rattle.verdict.specs.Numbers.{qualifies}
-use Rattle.verdict.specs.declared.pairs.MetaSeq.{MetaSeq}
-use Rattle.verdict.specs.declared.pairs.Opposite.{Opposite}
+use Rattle.candidate.specs.Pairs.{numbered, badPayload, blank, oppositeSlot}
+use Rattle.candidate.specs.Numbers.{qualifies}
+use Rattle.candidate.specs.declared.pairs.MetaSeq.{MetaSeq}
+use Rattle.candidate.specs.declared.pairs.Opposite.{Opposite}
 use Rattle.region.specs.Block.{clamp, blockSize, entriesPerPage}
 use Rattle.name.specs.Name.{nameOk, nameCheck}
 use Rattle.name.specs.Utf8.{firstByte, nextByte}

@@ -6,8 +6,11 @@ use Prim.Native.Nat.{ℕ, suc, _+_, _*_}
 use lib.Dec.{eqb}
 use Rattle.slot.specs.declared.slot.SlotIndex.{SlotIndex}
 use Rattle.frame.specs.declared.frame.SlotPart.{SlotPart}
-use Rattle.verdict.specs.declared.pairs.PairPart.{PairPart}
-use Rattle.verdict.specs.declared.pairs.PairCase.{PairCase}
+use Rattle.candidate.specs.declared.pairs.PairPart.{PairPart}
+use Rattle.candidate.specs.declared.pairs.PairCase.{PairCase}
+use Rattle.candidate.specs.Pairs.{pairCase, hasCandidate}
+use Rattle.candidate.specs.Numbers.{slots, qualifies}
+use Rattle.candidate.specs.Maxima.{oneMore}
 use Rattle.verdict.specs.declared.verdict.SlotVerdict.{SlotVerdict}
 use Rattle.verdict.specs.declared.verdict.Standing.{Standing}
 use Rattle.verdict.specs.declared.verdict.PairVerdict.{PairVerdict}
@@ -15,10 +18,7 @@ use Rattle.verdict.specs.declared.verdict.Tally.{Tally}
 use Rattle.verdict.specs.declared.verdict.StoreRules.{StoreRules}
 use Rattle.verdict.specs.declared.verdict.Heal.{Heal}
 use Rattle.verdict.specs.declared.verdict.Judgement.{Judgement}
-use Rattle.verdict.specs.Pairs.{pairCase, hasCandidate}
 use Rattle.verdict.specs.Verdict.{byIndex, noWinner, pairVerdict, isInFlight, inFlight, confirmed, refused, unconfirmed, withoutWinner}
-use Rattle.verdict.specs.Numbers.{slots, qualifies}
-use Rattle.verdict.specs.Maxima.{oneMore}
 
 -- ---- the first pass
 

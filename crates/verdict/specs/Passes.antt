@@ -1,13 +1,13 @@
 -- The first pass as the code makes it (judge.rs), by its maxima. That it gives the same as the definition is a law (proofs/PassLaws.antt).
 use mathlib.Core.Bool.{Bool, false}
 use mathlib.Core.List.{List, [], _∷_}
-use Rattle.verdict.specs.declared.pairs.PairPart.{PairPart}
-use Rattle.verdict.specs.declared.numbers.Maxima.{Maxima}
+use Rattle.candidate.specs.declared.pairs.PairPart.{PairPart}
+use Rattle.candidate.specs.declared.numbers.Maxima.{Maxima}
+use Rattle.candidate.specs.Pairs.{pairCase}
+use Rattle.candidate.specs.Maxima.{byMaxima}
 use Rattle.verdict.specs.declared.verdict.PairVerdict.{PairVerdict}
 use Rattle.verdict.specs.declared.verdict.Tally.{Tally}
-use Rattle.verdict.specs.Pairs.{pairCase}
 use Rattle.verdict.specs.Verdict.{pairVerdict}
-use Rattle.verdict.specs.Maxima.{byMaxima}
 use Rattle.verdict.specs.Judge.{tallied}
 
 abbrev pub verdictsBy : Maxima → List PairPart → List PairVerdict

@@ -4,9 +4,9 @@ use mathlib.Core.List.{List, [], _∷_}
 use Prim.Native.Nat.{ℕ}
 use Rattle.slot.specs.declared.slot.SlotIndex.{SlotIndex}
 use Rattle.slot.specs.Status.{other}
-use Rattle.verdict.specs.declared.pairs.MetaSeq.{MetaSeq}
-use Rattle.verdict.specs.declared.pairs.Opposite.{Opposite}
-use Rattle.verdict.specs.declared.pairs.PairCase.{PairCase}
+use Rattle.candidate.specs.declared.pairs.MetaSeq.{MetaSeq}
+use Rattle.candidate.specs.declared.pairs.Opposite.{Opposite}
+use Rattle.candidate.specs.declared.pairs.PairCase.{PairCase}
 use Rattle.verdict.specs.declared.verdict.SlotVerdict.{SlotVerdict}
 use Rattle.verdict.specs.declared.verdict.Standing.{Standing}
 use Rattle.verdict.specs.declared.verdict.WinnerSlot.{WinnerSlot}

@@ -3,16 +3,16 @@
 //
 // A write in flight is healed if it is the only candidate that qualifies. A page's is not healed under a clean mark, nor in a store
 // where any pair is not Confirmed; the volume record's is healed unless a pair is refused. One that is not healed is Damage.
-use crate::numbers::Maxima;
-use crate::pairs::Opposite;
-use crate::pairs::PairCase;
+use candidate::numbers::Maxima;
+use candidate::pairs::Opposite;
+use candidate::pairs::PairCase;
 use slot::slot::SlotIndex;
 ghost use mathlib.Core.Path.{_≡_};
 ghost use mathlib.Core.Bool.{cond, true, false};
 ghost use lib.Dec.{eqb};
-ghost use Rattle.verdict.specs.Pairs.{isCandidate, hasCandidate};
+ghost use Rattle.candidate.specs.Pairs.{hasCandidate};
+ghost use Rattle.candidate.specs.Maxima.{qualifiesBy, byMaxima};
 ghost use Rattle.verdict.specs.Verdict.{slotVerdict, standingBeside, winnerBeside, noWinner, pairVerdict, isInFlight, inFlight, confirmed, refused, unconfirmed, withoutWinner};
-ghost use Rattle.verdict.specs.Maxima.{qualifiesBy, byMaxima};
 ghost use Rattle.verdict.specs.Judge.{count, tallied, demotedSlot, demoted, healOf, cleanMark, storeRules, writable};
 
 // What became of one slot.
@@ -100,7 +100,7 @@ fn slot_verdict(m: Maxima, o: Opposite) -> SlotVerdict
         Opposite::Nothing => SlotVerdict::Nothing,
         Opposite::OlderDamaged => SlotVerdict::OlderDamaged,
         Opposite::Candidate(seq) => {
-            if crate::numbers::qualifies(m, seq) {
+            if candidate::numbers::qualifies(m, seq) {
                 SlotVerdict::InFlight
             } else {
                 SlotVerdict::Damage
@@ -232,27 +232,6 @@ fn without_winner(s: Standing) -> bool
     }
 }
 
-fn is_candidate(o: Opposite) -> bool
-    ensures { λ r. ⌜ r ≡ isCandidate o ⌝ }
-{
-    match o {
-        Opposite::Nothing => false,
-        Opposite::OlderDamaged => false,
-        Opposite::Candidate(_) => true,
-        Opposite::Damage => false,
-    }
-}
-
-fn has_candidate(case: PairCase) -> bool
-    ensures { λ r. ⌜ r ≡ hasCandidate case ⌝ }
-{
-    match case {
-        PairCase::Refused => false,
-        PairCase::Lost => false,
-        PairCase::Won(_, o) => is_candidate(o),
-    }
-}
-
 fn either(x: bool, y: bool) -> bool
     ensures { λ r. ⌜ r ≡ cond x true y ⌝ }
 {
@@ -265,7 +244,7 @@ fn page_candidate(volume: bool, case: PairCase, before: bool) -> bool
     if volume {
         return before;
     }
-    either(has_candidate(case), before)
+    either(candidate::pairs::has_candidate(case), before)
 }
 
 fn trouble(s: Standing, before: bool) -> bool
@@ -279,7 +258,7 @@ fn count(v: PairVerdict, n: usize) -> usize
     ensures { λ r. ⌜ r ≡ count v n ⌝ }
 {
     if in_flight(v) {
-        return crate::numbers::one_more(n);
+        return candidate::numbers::one_more(n);
     }
     n
 }

@@ -7,8 +7,8 @@ use denote.Ref.{now}
 use Rattle.codec.proofs.CursorLaws.{part-rest}
 use borrow.Author.Needs.{needs}
 use Rattle.judge.specs.Frames.{row}
-use Rattle.verdict.specs.Numbers.{slots}
-use Rattle.verdict.specs.Maxima.{noteAll, noMaxima}
+use Rattle.candidate.specs.Numbers.{slots}
+use Rattle.candidate.specs.Maxima.{noteAll, noMaxima}
 use Rattle.judge.proofs.RowLaws.{rowFrom, row-start, row-step, row-end}
 use Rattle.judge.proofs.frames.maxima_of.Statement.{statement}
 use Rattle.judge.proofs.frames.maxima_of.Tie as tie
