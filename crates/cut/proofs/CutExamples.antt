@@ -28,7 +28,7 @@ use Rattle.pair.specs.Pair.{winnerInfo}
 use Rattle.pair.specs.declared.pair.WinnerInfo.{WinnerInfo}
 use Rattle.frame.specs.declared.frame.SlotPart.{SlotPart}
 use Rattle.candidate.specs.Numbers.{slots, highest}
-use Rattle.judge.specs.Frames.{verdictWidth}
+use Rattle.judge_frames.specs.Frames.{verdictWidth}
 use Rattle.region.specs.Block.{clamp, blockSize, entriesPerPage}
 use Rattle.volume_base.specs.Base.{baseCheck, decodeBase, baseBytes}
 use Rattle.volume_tail.specs.Tail.{tailBytes}

@@ -21,10 +21,9 @@ use Rattle.frame.specs.declared.frame.SlotPart.{SlotPart}
 use Rattle.frame.proofs.PartLaws.{InfoFits, ValidFits, FactsFit, part-range, part-fits}
 use Rattle.verdict.specs.Verdict.{verdictBytes}
 use Rattle.verdict.specs.Judge.{verdicts, judgeRow}
-use Rattle.judge.specs.Frames.{verdictWidth, judged, judgedBytes}
-use Rattle.judge.specs.Row.{refusedRow, markOf}
-use Rattle.judge.specs.declared.frames.Judged.{Judged}
-use Rattle.judge.proofs.FilledLaws.{Filled, AllFilled, filled-judged, filled-bytes}
+use Rattle.judge_frames.specs.Frames.{verdictWidth, judged, judgedBytes, refusedRow, markOf}
+use Rattle.verdict.specs.declared.verdict.Judged.{Judged}
+use Rattle.judge_frames.proofs.FilledLaws.{Filled, AllFilled, filled-judged, filled-bytes}
 use Rattle.cut.specs.Store.{Every, Bytes, Slot, Pair, status, numbersGiven, checksumGiven, filled, slotPart, pairPart, parts, frames, Typed}
 use Rattle.cut.proofs.ByteLaws.{le-fits}
 use Rattle.cut.proofs.StatusLaws.{Failure, Passed, parse-passed, parse-failed, validate-cases}

@@ -20,8 +20,9 @@ use Rattle.candidate.specs.declared.pairs.PairPart.{PairPart}
 use Rattle.candidate.specs.declared.pairs.PairCase.{PairCase}
 use Rattle.candidate.specs.declared.pairs.MetaSeq.{MetaSeq}
 use Rattle.verdict.specs.declared.verdict.PairVerdict.{PairVerdict}
-use Rattle.judge.specs.Row.{partRead, rowRead, refusedRow, rowJudged, rowVerdicts}
-use Rattle.judge.specs.declared.frames.Judged.{Judged}
+use Rattle.judge_frames.specs.Frames.{refusedRow}
+use Rattle.judge.specs.Row.{partRead, rowRead, rowJudged, rowVerdicts}
+use Rattle.verdict.specs.declared.verdict.Judged.{Judged}
 use Rattle.cut.specs.Store.{Slot, Pair, status, filled, slotPart, pairPart, parts, slotRead, reads}
 use Rattle.cut.proofs.FrameLaws.{not-refused}
 

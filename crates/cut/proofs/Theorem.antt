@@ -18,7 +18,7 @@ use Rattle.candidate.specs.declared.pairs.MetaSeq.{MetaSeq}
 use Rattle.verdict.specs.declared.verdict.SlotVerdict.{SlotVerdict}
 use Rattle.verdict.specs.declared.verdict.PairVerdict.{PairVerdict}
 use Rattle.verdict.specs.declared.verdict.Heal.{Heal}
-use Rattle.judge.specs.Frames.{verdictWidth}
+use Rattle.judge_frames.specs.Frames.{verdictWidth}
 use Rattle.cut.specs.Store.{Every, Bytes, Slot, Pair, pairPart, parts, lastRecord, lastRecords, Typed, SoundPair, Sound}
 use Rattle.cut.specs.Cut.{Write, store, size, old, new, left, withBytes, withSlot, after, CutPoint, CorrectWrite, whole, Accident, isEmpty, handed, ReadBack, AllReadBack, Survives, CutTheorem}
 use Rattle.cut.proofs.StatusLaws.{false-true}

@@ -30,9 +30,9 @@ use Rattle.verdict.specs.declared.verdict.WinnerSlot.{WinnerSlot}
 use Rattle.verdict.specs.declared.verdict.PairVerdict.{PairVerdict}
 use Rattle.verdict.specs.declared.verdict.Heal.{Heal}
 use Rattle.verdict.specs.declared.verdict.Judgement.{Judgement}
-use Rattle.judge.specs.Frames.{verdictWidth, judged, judgedBytes}
-use Rattle.judge.specs.Row.{markOf, rowJudged, rowVerdicts}
-use Rattle.judge.specs.declared.frames.Judged.{Judged}
+use Rattle.judge_frames.specs.Frames.{verdictWidth, judged, judgedBytes, markOf}
+use Rattle.judge.specs.Row.{rowJudged, rowVerdicts}
+use Rattle.verdict.specs.declared.verdict.Judged.{Judged}
 use Rattle.cut.specs.Store.{Every, Bytes, Slot, Pair, accepts, cleanMark, slotAt, report, parts, frames, reads, lastRecord, lastRecords, storeMark, Sound}
 
 -- ---- the write and the cut

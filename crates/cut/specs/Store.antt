@@ -19,7 +19,7 @@ use Rattle.frame.specs.Frame.{partOf}
 use Rattle.frame.specs.declared.frame.SlotPart.{SlotPart}
 use Rattle.verdict.specs.Verdict.{byIndex}
 use Rattle.candidate.specs.declared.pairs.PairPart.{PairPart}
-use Rattle.judge.specs.Row.{framesOf}
+use Rattle.judge_frames.specs.Frames.{framesOf}
 use Rattle.judge.specs.declared.SlotRead.{SlotRead}
 use Rattle.judge.specs.declared.PairRead.{PairRead}
 use Rattle.volume.specs.Volume.{decodeVolume}

@@ -18,10 +18,9 @@ use Rattle.frame.specs.Frame.{partFrom, partBytes}
 use Rattle.verdict.specs.declared.verdict.Heal.{Heal}
 use Rattle.candidate.specs.Pairs.{numbered, badPayload, badHeader, blank, oppositeSlot, unsupported, newer, pairCase}
 use Rattle.verdict.specs.Judge.{firstVerdicts, firstTally, cleanMark, storeRules, demoted, healOf, writable, rowRules, verdicts, judgeRow}
-use Rattle.judge.specs.Frames.{pairFrom, partInRange, pairInRange, refusal, judged, judgedBytes}
-use Rattle.judge.specs.Row.{framesOf, markOf}
+use Rattle.judge_frames.specs.Frames.{pairFrom, partInRange, pairInRange, refusal, judged, judgedBytes, framesOf, markOf}
 use Rattle.judge.specs.declared.SlotRead.{SlotRead}
-use Rattle.judge.specs.declared.frames.Judged.{Judged}
+use Rattle.verdict.specs.declared.verdict.Judged.{Judged}
 use Rattle.page_write.specs.Write.{headerBytes as pageHeaderBytes}
 use Rattle.volume_base.specs.Base.{baseBytes}
 use Rattle.volume_tail.specs.Tail.{tailBytes}

@@ -16,11 +16,11 @@ use Rattle.frame.specs.Frame.{partBytes}
 use Rattle.frame.specs.declared.frame.SlotPart.{SlotPart}
 use Rattle.candidate.specs.declared.pairs.PairPart.{PairPart}
 use Rattle.verdict.specs.declared.verdict.Heal.{Heal}
-use Rattle.judge.specs.Frames.{judged, judgedBytes}
-use Rattle.judge.specs.Row.{partRead, framesOf, markOf}
+use Rattle.judge_frames.specs.Frames.{judged, judgedBytes, framesOf, markOf}
+use Rattle.judge.specs.Row.{partRead}
 use Rattle.judge.specs.declared.SlotRead.{SlotRead}
 use Rattle.judge.specs.declared.PairRead.{PairRead}
-use Rattle.judge.specs.declared.frames.Judged.{Judged}
+use Rattle.verdict.specs.declared.verdict.Judged.{Judged}
 use Rattle.cut.specs.Store.{Decoder, Slot, Pair, accepts, report, filled, slotPart, pairPart, frames, slotRead}
 use Rattle.cut.specs.Cut.{Write, after, handed}
 use Rattle.cut.proofs.CutExamples.{rest}

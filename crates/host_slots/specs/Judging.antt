@@ -4,7 +4,7 @@ use mathlib.Core.List.{List, [], _∷_}
 use Prim.Native.Nat.{ℕ}
 use Rattle.verdict.specs.declared.verdict.Heal.{Heal}
 use Rattle.verdict.specs.declared.verdict.Judgement.{Judgement}
-use Rattle.judge.specs.declared.frames.Judged.{Judged}
+use Rattle.verdict.specs.declared.verdict.Judged.{Judged}
 use Rattle.winner.specs.Winner.{slotNumber, flag}
 
 abbrev pub healSlot : Heal → ℕ

@@ -1,8 +1,5 @@
-pub mod RowLaws
-pub mod FilledLaws
 pub mod SweepLaws
 pub mod LendLaws
 pub mod WalkLaws
 pub mod RowTypes
 pub mod SameJudge
-pub mod JudgeExamples

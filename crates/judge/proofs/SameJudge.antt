@@ -27,15 +27,15 @@ use Rattle.frame.proofs.PartLaws.{InfoFits, ValidFits, FactsFit, part-range, pa
 use Rattle.verdict.specs.declared.verdict.PairVerdict.{PairVerdict}
 use Rattle.verdict.specs.Verdict.{verdictBytes}
 use Rattle.verdict.specs.Judge.{verdicts}
+use Rattle.judge_frames.specs.Frames.{verdictWidth, judged, judgedBytes, refusedRow, framesOf, markOf}
+use Rattle.judge_frames.proofs.FilledLaws.{Filled, AllFilled, filled-judged, filled-bytes}
 use Rattle.judge.specs.declared.SlotRead.{SlotRead}
 use Rattle.judge.specs.declared.PairRead.{PairRead}
-use Rattle.judge.specs.Frames.{verdictWidth, judged, judgedBytes}
-use Rattle.judge.specs.Row.{partRead, rowRead, refusedRow, rowJudged, rowVerdicts, framesOf, markOf}
+use Rattle.judge.specs.Row.{partRead, rowRead, rowJudged, rowVerdicts}
 use Rattle.judge.proofs.SlotRead as R
 use Rattle.judge.proofs.SlotRead.Laws as R′
 use Rattle.judge.proofs.PairRead as P
 use Rattle.judge.proofs.PairRead.Laws as P′
-use Rattle.judge.proofs.FilledLaws.{Filled, AllFilled, filled-judged, filled-bytes}
 
 -- ---- what the types of the row's records say of its values
 

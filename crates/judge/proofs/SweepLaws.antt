@@ -10,24 +10,25 @@ use lib.Dec.{eqb}
 use lib.ListN.{length, getD, set, take, drop, length-take, length-append, drop-of-length-le}
 use lib.Seq.{drop-cons, getD-take, set-getD, getD-append-seam, set-append-seam, take-all}
 use borrow.Author.Tests.{ne-eqb, eqb-true, eqb-false}
+use Rattle.slot.specs.declared.slot.SlotStatus.{SlotStatus}
+use Rattle.slot.specs.declared.slot.HeaderFacts.{HeaderFacts}
 use Rattle.candidate.specs.declared.pairs.PairPart.{PairPart}
 use Rattle.candidate.specs.declared.numbers.Maxima.{Maxima}
-use Rattle.verdict.specs.declared.verdict.PairVerdict.{PairVerdict}
-use Rattle.verdict.specs.declared.verdict.Standing.{Standing}
 use Rattle.candidate.specs.Numbers.{slots}
 use Rattle.candidate.specs.Maxima.{noteAll}
+use Rattle.verdict.specs.declared.verdict.PairVerdict.{PairVerdict}
+use Rattle.verdict.specs.declared.verdict.Standing.{Standing}
 use Rattle.verdict.specs.Verdict.{noWinner}
 use Rattle.verdict.specs.Judge.{lastVerdicts, demoted, healOf, heal}
 use Rattle.verdict.specs.Passes.{verdictsBy, tallies}
 use Rattle.verdict.proofs.PassLaws.{row-judged, verdicts-judged}
-use Rattle.slot.specs.declared.slot.SlotStatus.{SlotStatus}
-use Rattle.slot.specs.declared.slot.HeaderFacts.{HeaderFacts}
+use Rattle.verdict.specs.declared.verdict.Judged.{Judged}
+use Rattle.judge_frames.specs.Frames.{refusedRow}
 use Rattle.judge.specs.declared.SlotRead.{SlotRead}
 use Rattle.judge.specs.declared.PairRead.{PairRead}
 use Rattle.judge.specs.declared.Progress.{Progress}
 use Rattle.judge.specs.declared.Stepped.{Stepped}
-use Rattle.judge.specs.declared.frames.Judged.{Judged}
-use Rattle.judge.specs.Row.{pairRead, rowRead, refusedRow, rowJudged, rowVerdicts}
+use Rattle.judge.specs.Row.{pairRead, rowRead, rowJudged, rowVerdicts}
 use Rattle.judge.specs.Sweep.{begun, finished, withMaxima, withTally, withHeal, rulesOf, numberPair, judgePair, settlePair, firstVerdict, stepped, stepAt, rowFromPair, verdictsFromPair, sweptRow, sweptVerdicts}
 
 -- ---- what a pass keeps

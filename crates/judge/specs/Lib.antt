@@ -1,3 +1,2 @@
-pub mod Frames
 pub mod Row
 pub mod Sweep

@@ -7,21 +7,22 @@ use lib.Dec.{eqb}
 use lib.ListN.{getD, set, take}
 use Rattle.candidate.specs.declared.pairs.PairPart.{PairPart}
 use Rattle.candidate.specs.declared.numbers.Maxima.{Maxima}
+use Rattle.candidate.specs.Pairs.{numbered, pairCase}
+use Rattle.candidate.specs.Maxima.{noMaxima, noteSeq, byMaxima}
 use Rattle.verdict.specs.declared.verdict.Heal.{Heal}
 use Rattle.verdict.specs.declared.verdict.PairVerdict.{PairVerdict}
 use Rattle.verdict.specs.declared.verdict.Standing.{Standing}
 use Rattle.verdict.specs.declared.verdict.StoreRules.{StoreRules}
 use Rattle.verdict.specs.declared.verdict.Tally.{Tally}
-use Rattle.candidate.specs.Pairs.{numbered, pairCase}
-use Rattle.candidate.specs.Maxima.{noMaxima, noteSeq, byMaxima}
 use Rattle.verdict.specs.Verdict.{noWinner, pairVerdict}
 use Rattle.verdict.specs.Judge.{tallied, storeRules, demoted, healOf, writable}
 use Rattle.verdict.specs.Passes.{noTally}
+use Rattle.verdict.specs.declared.verdict.Judged.{Judged}
+use Rattle.judge_frames.specs.Frames.{refusedRow}
 use Rattle.judge.specs.declared.PairRead.{PairRead}
 use Rattle.judge.specs.declared.Progress.{Progress}
 use Rattle.judge.specs.declared.Stepped.{Stepped}
-use Rattle.judge.specs.declared.frames.Judged.{Judged}
-use Rattle.judge.specs.Row.{pairRead, refusedRow}
+use Rattle.judge.specs.Row.{pairRead}
 
 -- ---- what is carried
 

@@ -1,8 +1,7 @@
 // Layer 2: the store verdict. Of all pairs of a store: which slot wins, which failed slot (if any) is the one write that a crash left
 // torn, and whether the store may be written.
 //
-// `judge` takes the pairs as they were read, `frames::judge` as a host hands them over. Both go by the same rules, one pair at a time.
-// `judge` goes through the row three times, by one loop:
+// The row of pairs is taken as it was read. It is gone through three times, by one loop:
 //
 // | Pass | Of each pair | Of the row |
 // |---|---|---|
@@ -12,10 +11,10 @@
 use candidate::numbers::Maxima;
 use candidate::pairs::PairPart;
 use frame::frame::SlotPart;
-use frames::Judged;
 use slot::slot::HeaderFacts;
 use slot::slot::SlotStatus;
 use verdict::verdict::Heal;
+use verdict::verdict::Judged;
 use verdict::verdict::Judgement;
 use verdict::verdict::PairVerdict;
 use verdict::verdict::SlotVerdict;
@@ -27,10 +26,9 @@ ghost use mathlib.Core.Bool.{cond};
 ghost use lib.Dec.{eqb};
 ghost use Prim.Native.Nat.{_≤_};
 ghost use lib.ListN.{length};
-ghost use Rattle.judge.specs.Row.{partRead, pairRead, refusedRow, rowJudged, rowVerdicts};
+ghost use Rattle.judge_frames.specs.Frames.{refusedRow};
+ghost use Rattle.judge.specs.Row.{partRead, pairRead, rowJudged, rowVerdicts};
 ghost use Rattle.judge.specs.Sweep.{begun, carried, numberPair, judgePair, settlePair, stepped, sweptRow, sweptVerdicts, finished};
-
-pub mod frames;
 
 // One slot as read: its status, and what its header shows.
 pub struct SlotRead {

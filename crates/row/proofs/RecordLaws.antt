@@ -16,7 +16,7 @@ use Rattle.codec.proofs.CursorLaws.{step-there}
 use Rattle.cases.specs.Number.{orZero}
 use Rattle.verdict.specs.declared.verdict.PairVerdict.{PairVerdict}
 use Rattle.verdict.specs.Verdict.{verdictBytes}
-use Rattle.judge.specs.Frames.{frameWidth, verdictWidth}
+use Rattle.judge_frames.specs.Frames.{frameWidth, verdictWidth}
 use Rattle.row.specs.Judged.{noRow}
 
 pub there : (w : ℕ) (s : List ℕ) (at : ℕ) → at + w ≤ length s → orZero (read w s at) ≡ le w s at

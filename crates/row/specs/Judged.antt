@@ -9,8 +9,8 @@ use Rattle.verdict.specs.declared.verdict.PairVerdict.{PairVerdict}
 use Rattle.verdict.specs.declared.verdict.Standing.{Standing}
 use Rattle.verdict.specs.Verdict.{noWinner, verdictBytes}
 use Rattle.judge.specs.declared.PairRead.{PairRead}
-use Rattle.judge.specs.declared.frames.Judged.{Judged}
-use Rattle.judge.specs.Frames.{frameWidth, pairs, row}
+use Rattle.verdict.specs.declared.verdict.Judged.{Judged}
+use Rattle.judge_frames.specs.Frames.{frameWidth, pairs, row}
 use Rattle.judge.specs.Row.{rowJudged, rowVerdicts}
 use Rattle.row.specs.declared.RowJudged.{RowJudged}
 use Rattle.row.specs.declared.RowAnswer.{RowAnswer}

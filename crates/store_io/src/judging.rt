@@ -1,9 +1,9 @@
 // The judge for C hosts.
 use host_slots::judging::judgement_values;
-use judge::frames::Judged;
+use verdict::verdict::Judged;
 ghost use mathlib.Core.Path.{_≡_};
 ghost use lib.ListN.{length};
-ghost use Rattle.judge.specs.Frames.{judged, judgedBytes};
+ghost use Rattle.judge_frames.specs.Frames.{judged, judgedBytes};
 ghost use Rattle.host_slots.specs.Judging.{judgedRefusal, judgementOr};
 
 // Judges a whole store from its frames.
@@ -18,7 +18,7 @@ pub extern "C" fn sio_judge(
     ensures { λ _. ⌜ now (verdicts .exit) ≡ judgedBytes (now (frames .entry)) clean (now (verdicts .entry)) ⌝ }
     ensures { λ _. ⌜ now (judgement .exit) ≡ judgementOr (now (judgement .entry)) (judged (now (frames .entry)) clean (length (now (verdicts .entry)))) ⌝ }
 {
-    match judge::frames::judge(frames, clean, verdicts) {
+    match judge_frames::judge(frames, clean, verdicts) {
         Judged::Refusal(number) => number as u32,
         Judged::Done(j) => {
             *judgement = judgement_values(j);

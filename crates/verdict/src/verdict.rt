@@ -91,6 +91,13 @@ pub struct Judgement {
     pub refused: bool,
 }
 
+// The judgement, or the number of a refusal.
+pub enum Judged {
+    // 8 no pair, 9 another number of verdicts, 10 no whole frames or a value out of range.
+    Refusal(u8),
+    Done(Judgement),
+}
+
 // ---- the first pass
 
 fn slot_verdict(m: Maxima, o: Opposite) -> SlotVerdict

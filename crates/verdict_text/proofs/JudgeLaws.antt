@@ -16,8 +16,8 @@ use Rattle.cases.specs.Hex.{decoded, isSome, decodeAnswer, decodeOut}
 use Rattle.cases.proofs.HexLaws.{known-length}
 use Rattle.cases.specs.declared.hex.Decoded.{Decoded}
 use Rattle.verdict.specs.declared.verdict.Judgement.{Judgement}
-use Rattle.judge.specs.declared.frames.Judged.{Judged}
-use Rattle.judge.specs.Frames.{frameWidth, verdictWidth, pairs, judged, judgedBytes}
+use Rattle.verdict.specs.declared.verdict.Judged.{Judged}
+use Rattle.judge_frames.specs.Frames.{frameWidth, verdictWidth, pairs, judged, judgedBytes}
 use Rattle.verdict_text.specs.Text.{newline, markOf, frameOf, line, refusalLine, verdictLines, judgementBytes, refused, judgedText}
 
 module _ (fs : List ℕ) (clean : ℕ) where

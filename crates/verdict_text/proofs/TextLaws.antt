@@ -11,7 +11,7 @@ use borrow.Rule.Slice.PartMut.{putMid}
 use borrow.Author.Tests.{eq-eqb, ne-eqb}
 use Rattle.codec.specs.Bytes.{put}
 use Rattle.codec.proofs.CursorLaws.{put-put}
-use Rattle.judge.specs.Frames.{verdictWidth}
+use Rattle.judge_frames.specs.Frames.{verdictWidth}
 use Rattle.verdict_text.specs.Text.{newline, hexDigit, line, frameLine, frameOf, joined, frameLines, verdictLines}
 
 -- ---- a line

@@ -15,7 +15,7 @@ use Rattle.verdict.specs.declared.verdict.Judgement.{Judgement}
 use Rattle.verdict.specs.declared.verdict.WinnerSlot.{WinnerSlot}
 use Rattle.verdict.specs.Verdict.{winnerNumber, verdictBytes}
 use Rattle.verdict.specs.Judge.{verdicts, judgeRow}
-use Rattle.judge.specs.Frames.{frameWidth, verdictWidth, pairs, row, refusal}
+use Rattle.judge_frames.specs.Frames.{frameWidth, verdictWidth, pairs, row, refusal}
 
 -- ---- what is read
 

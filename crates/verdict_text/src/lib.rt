@@ -1,8 +1,8 @@
 // The text of program `verdicts`: what it prints for what it reads, as a function on slices.
 use cases::hex::Decoded;
-use judge::frames::Judged;
 use slot::slot::SlotIndex;
 use verdict::verdict::Heal;
+use verdict::verdict::Judged;
 use verdict::verdict::Judgement;
 use verdict::verdict::WinnerSlot;
 ghost use mathlib.Core.Path.{_≡_};
@@ -12,7 +12,7 @@ ghost use lib.ListN.{length, getD, drop};
 ghost use Rattle.codec.specs.Bytes.{put};
 ghost use Rattle.cases.specs.Hex.{isSome, decodeOut};
 ghost use Rattle.verdict.specs.Verdict.{winnerNumber};
-ghost use Rattle.judge.specs.Frames.{frameWidth, verdictWidth, pairs};
+ghost use Rattle.judge_frames.specs.Frames.{frameWidth, verdictWidth, pairs};
 ghost use Rattle.verdict_text.specs.Text.{markOf, markLine, frameLine, frameOf, frameLines, hexDigit, line, refusalLine, verdictLine, lastLine, verdictLines, healSlot, healPair, flag, judgementBytes, judgedText, framesText, lineCount};
 ghost use Rattle.verdict_text.specs.Respond.{mostPairs, responseRoom, responded, respondedOut, given};
 
@@ -239,7 +239,7 @@ fn judge_frames(frames: &[u8], clean: u8, verdicts: &mut [u8], output: &mut [u8]
     ensures { λ _. ⌜ now (output .exit) ≡ put (now (output .entry)) 0 (judgedText (now (frames .entry)) clean) ⌝ }
 {
     let n = frames.len() / FRAME;
-    match judge::frames::judge(frames, clean, verdicts) {
+    match judge_frames::judge(frames, clean, verdicts) {
         Judged::Refusal(code) => put_refusal(output, code),
         Judged::Done(j) => put_judgement(output, verdicts, n, j),
     }

@@ -43,17 +43,17 @@ use denote.Triple.Table.{entered, cited}
 use denote.Triple.Walked.{says, Stays, stay-none-slice, stay-slice, stay-none, walkOf, goes-none-slice, goes-slice, goes-none, Walks, ends-at, walked, walk-meets}
 use denote.Exit.{yes}
 use Rattle.verdict.specs.declared.verdict.PairVerdict.{PairVerdict}
+use Rattle.verdict.specs.declared.verdict.Judged.{Judged}
+use Rattle.verdict.proofs.verdict.Judged as J
+use Rattle.verdict.proofs.verdict.Judged.Laws as J′
 use Rattle.judge.specs.declared.PairRead.{PairRead}
 use Rattle.judge.specs.declared.Progress.{Progress}
-use Rattle.judge.specs.declared.frames.Judged.{Judged}
 use Rattle.judge.specs.Sweep.{sweptRow, sweptVerdicts, finished}
 use Rattle.judge.proofs.LendLaws.{LentAgain, lends-again, comes-back}
 use Rattle.judge.proofs.SweepLaws.{start, numbers, kept, judged, firsts, settled, lasts as finals, start-fits, numbers-count, judged-count, passes-judge}
 use Rattle.judge.proofs.WalkLaws.{Content, empty, holds, cells, rights, env, Plainly, allocates, frees-all, local-of, field-of, behind, sets, lends, owns-it, calls-for}
 use Rattle.judge.proofs.RowTypes.{RP, RV, RS, sval, pairs-ty, out-ty, progress}
 use Rattle.judge.proofs.Progress.Laws as S′
-use Rattle.judge.proofs.frames.Judged as J
-use Rattle.judge.proofs.frames.Judged.Laws as J′
 use Rattle.judge.proofs.begin as begin
 use Rattle.judge.proofs.begin.Symbol as begin-def
 use Rattle.judge.proofs.begin.Symbol.{name as #judge·begin}

@@ -1,6 +1,6 @@
 -- `refused_row` meets its contract, by the tests in their order.
 use borrow.Author.Tests.{eq-eqb, ne-eqb}
-use Rattle.judge.specs.Row.{refusedRow}
+use Rattle.judge_frames.specs.Frames.{refusedRow}
 use Rattle.judge.proofs.refused_row.Statement.{statement}
 use Rattle.judge.proofs.refused_row.Tie as tie
 

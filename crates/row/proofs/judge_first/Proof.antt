@@ -52,7 +52,7 @@ use denote.Triple.Walked.{says, needs, Stays, stay-none, walkOf, goes-none, Walk
 use denote.Exit.{yes}
 use Rattle.verdict.specs.declared.verdict.PairVerdict.{PairVerdict}
 use Rattle.judge.specs.declared.PairRead.{PairRead}
-use Rattle.judge.specs.declared.frames.Judged.{Judged}
+use Rattle.verdict.specs.declared.verdict.Judged.{Judged}
 use Rattle.judge.specs.Row.{rowJudged, rowVerdicts}
 use Rattle.row.specs.declared.RowJudged.{RowJudged}
 use Rattle.row.specs.Judged.{judgedFirst}
@@ -61,8 +61,8 @@ use Rattle.judge.proofs.PairRead as P
 use Rattle.judge.proofs.PairRead.Laws as P′
 use Rattle.verdict.proofs.verdict.PairVerdict as X
 use Rattle.verdict.proofs.verdict.PairVerdict.Laws as X′
-use Rattle.judge.proofs.frames.Judged as J
-use Rattle.judge.proofs.frames.Judged.Laws as J′
+use Rattle.verdict.proofs.verdict.Judged as J
+use Rattle.verdict.proofs.verdict.Judged.Laws as J′
 use Rattle.row.proofs.RowJudged as R
 use Rattle.row.proofs.RowJudged.Laws as R′
 use Rattle.judge.proofs.judge as judge

@@ -1,7 +1,7 @@
 -- `pair_of` meets its contract: A's part, and B's behind it.
 use borrow.Author.Needs.{needs}
 use Rattle.codec.proofs.CursorLaws.{part-rest}
-use Rattle.judge.specs.Frames.{pairFrom}
+use Rattle.judge_frames.specs.Frames.{pairFrom}
 use Rattle.row.proofs.pair_of.Statement.{statement}
 use Rattle.row.proofs.pair_of.Tie as tie
 

@@ -6,8 +6,8 @@ use native.Mathlib.Omega.{arith}
 use lib.ListN.{length, take, length-drop, length-set}
 use denote.Ref.{now}
 use Rattle.codec.proofs.CursorLaws.{part-rest}
-use Rattle.judge.specs.Frames.{row}
-use Rattle.judge.proofs.RowLaws.{rowFrom, row-start, row-step, row-end}
+use Rattle.judge_frames.specs.Frames.{row}
+use Rattle.judge_frames.proofs.RowLaws.{rowFrom, row-start, row-step, row-end}
 use Rattle.row.specs.Records.{records}
 use Rattle.row.proofs.RecordLaws.{filled-step}
 use Rattle.row.proofs.pairs_of.Statement.{statement}

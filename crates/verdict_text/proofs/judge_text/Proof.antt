@@ -7,7 +7,7 @@ use lib.Seq.{length-take-le}
 use Rattle.codec.proofs.CursorLaws.{part-rest}
 use borrow.Author.Needs.{needs}
 use denote.Ref.{now}
-use Rattle.judge.specs.Frames.{frameWidth, verdictWidth}
+use Rattle.judge_frames.specs.Frames.{frameWidth, verdictWidth}
 use Rattle.verdict_text.specs.Text.{lineCount}
 use Rattle.verdict_text.proofs.judge_text.Statement.{statement}
 use Rattle.verdict_text.proofs.judge_text.Tie as tie

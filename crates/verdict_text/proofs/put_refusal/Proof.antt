@@ -5,7 +5,7 @@ use lib.ListN.{length-set}
 use borrow.Author.Needs.{needs}
 use denote.Ref.{now}
 use Rattle.codec.specs.Bytes.{put}
-use Rattle.judge.proofs.RowLaws.{four-stores}
+use Rattle.judge_frames.proofs.RowLaws.{four-stores}
 use Rattle.verdict_text.specs.Text.{refusalLine}
 use Rattle.verdict_text.proofs.put_refusal.Statement.{statement}
 use Rattle.verdict_text.proofs.put_refusal.Tie as tie

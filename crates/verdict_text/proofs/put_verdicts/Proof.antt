@@ -6,7 +6,7 @@ use native.Mathlib.Omega.{arith}
 use lib.ListN.{length, take, drop, length-take, length-drop}
 use denote.Ref.{now}
 use Rattle.codec.specs.Bytes.{put}
-use Rattle.judge.specs.Frames.{verdictWidth}
+use Rattle.judge_frames.specs.Frames.{verdictWidth}
 use Rattle.verdict_text.specs.Text.{line, verdictLines}
 use Rattle.verdict_text.proofs.TextLaws.{verdictsFrom, verdicts-start, verdicts-step, verdicts-end, length-verdict, put-nil, put-more}
 use Rattle.verdict_text.proofs.put_verdicts.Statement.{statement}

@@ -11,7 +11,7 @@ use denote.Ref.{now}
 use Rattle.codec.proofs.CursorLaws.{part-rest}
 use Rattle.cases.proofs.HexLaws.{known-bytes, no-bytes}
 use Rattle.cases.specs.Hex.{bytesOf}
-use Rattle.judge.specs.Frames.{frameWidth}
+use Rattle.judge_frames.specs.Frames.{frameWidth}
 use Rattle.verdict_text.specs.Text.{frameLine, frameOf, frameLines, joined}
 use Rattle.verdict_text.proofs.JudgeLaws.{frame-size, decoded-front}
 use Rattle.verdict_text.proofs.TextLaws.{framesFrom, joined-nil, joined-some, frames-start, frames-step, frames-end, frames-more, taken-more}

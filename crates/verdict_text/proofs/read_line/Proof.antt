@@ -7,7 +7,7 @@ use lib.Seq.{length-take-le}
 use borrow.Author.Needs.{needs}
 use denote.Ref.{now}
 use Rattle.cases.specs.Hex.{decodeOut}
-use Rattle.judge.specs.Frames.{frameWidth}
+use Rattle.judge_frames.specs.Frames.{frameWidth}
 use Rattle.verdict_text.proofs.JudgeLaws.{frame-here, frame-none, frame-size, answer-bytes, answer-bad}
 use Rattle.verdict_text.proofs.read_line.Statement.{statement}
 use Rattle.verdict_text.proofs.read_line.Tie as tie
