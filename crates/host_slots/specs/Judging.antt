@@ -5,7 +5,8 @@ use Prim.Native.Nat.{ℕ}
 use Rattle.verdict.specs.declared.verdict.Heal.{Heal}
 use Rattle.verdict.specs.declared.verdict.Judgement.{Judgement}
 use Rattle.verdict.specs.declared.verdict.Judged.{Judged}
-use Rattle.winner.specs.Winner.{slotNumber, flag}
+use Rattle.slot.specs.Status.{slotNumber}
+use Rattle.winner.specs.Winner.{flag}
 
 abbrev pub healSlot : Heal → ℕ
 healSlot Heal.Nothing = 0

@@ -6,7 +6,8 @@ use lib.Dec.{ltb, eqb}
 use Rattle.slot.specs.declared.slot.SlotInfo.{SlotInfo}
 use Rattle.slot.specs.declared.slot.SlotStatus.{SlotStatus}
 use Rattle.pair.specs.Pair.{nextWrite}
-use Rattle.winner.specs.Winner.{winnerNumber, slotNumber, winnerSlot, flag}
+use Rattle.slot.specs.Status.{slotNumber}
+use Rattle.winner.specs.Winner.{winnerNumber, winnerSlot, flag}
 use Rattle.pair.specs.declared.pair.PairReport.{PairReport}
 use Rattle.pair.specs.declared.pair.NextWrite.{NextWrite}
 

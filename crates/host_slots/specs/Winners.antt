@@ -2,11 +2,12 @@
 -- length in that slot.
 use mathlib.Core.List.{List}
 use Prim.Native.Nat.{ℕ}
+use Rattle.slot.specs.Status.{slotNumber}
 use Rattle.slot.specs.Read.{payloadStart, payloadLength}
 use Rattle.slot.specs.declared.slot.SlotIndex.{SlotIndex}
 use Rattle.pair.specs.declared.pair.PairReport.{PairReport}
 use Rattle.pair.specs.declared.pair.WinnerInfo.{WinnerInfo}
-use Rattle.winner.specs.Winner.{readPair, slotNumber}
+use Rattle.winner.specs.Winner.{readPair}
 use Rattle.host_slots.specs.Slots.{expectOf}
 
 -- Both slots of a pair share all but the offset and the index.

@@ -25,7 +25,7 @@ pub fn heal_slot(heal: Heal) -> u64
 {
     match heal {
         Heal::Nothing => 0,
-        Heal::Slot(_, index) => winner::slot_number(index) as u64,
+        Heal::Slot(_, index) => index.number() as u64,
     }
 }
 

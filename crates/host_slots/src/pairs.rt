@@ -61,7 +61,7 @@ pub fn next_number(next: NextWrite) -> u8
     ensures { λ r. ⌜ r ≡ nextNumber next ⌝ }
 {
     match next {
-        NextWrite::Slot(index) => winner::slot_number(index),
+        NextWrite::Slot(index) => index.number(),
         NextWrite::Nothing => 0,
     }
 }

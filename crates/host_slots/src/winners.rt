@@ -12,7 +12,7 @@ pub fn winner_index(info: WinnerInfo) -> u32
 {
     match info {
         WinnerInfo::Nothing => 0,
-        WinnerInfo::Won(index, _) => winner::slot_number(index) as u32,
+        WinnerInfo::Won(index, _) => index.number() as u32,
     }
 }
 

@@ -20,7 +20,6 @@ use codec::codec::ReadU32;
 use codec::codec::ReadU64;
 use codec::codec::Reader;
 use frame::frame::SlotPart;
-use slot::slot::SlotIndex;
 use verdict::verdict::Heal;
 use verdict::verdict::Judged;
 use verdict::verdict::Judgement;
@@ -147,22 +146,13 @@ pub fn standing_number(s: Standing) -> u8
     }
 }
 
-fn slot_number(index: SlotIndex) -> u8
-    ensures { λ r. ⌜ r ≡ winnerNumber (WinnerSlot.Slot index) ⌝ }
-{
-    match index {
-        SlotIndex::A => 1,
-        SlotIndex::B => 2,
-    }
-}
-
 // of a winner, 0 for none,
 pub fn winner_number(w: WinnerSlot) -> u8
     ensures { λ r. ⌜ r ≡ winnerNumber w ⌝ }
 {
     match w {
         WinnerSlot::Nothing => 0,
-        WinnerSlot::Slot(index) => slot_number(index),
+        WinnerSlot::Slot(index) => index.number(),
     }
 }
 

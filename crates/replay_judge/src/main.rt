@@ -29,7 +29,6 @@ use codec::codec::Written;
 use libc::STDIN_FILENO;
 use libc::STDOUT_FILENO;
 use row::judge_row;
-use slot::slot::SlotIndex;
 use store_io::judging::sio_judge;
 use verdict::verdict::Heal;
 use verdict::verdict::Judged;
@@ -275,7 +274,7 @@ fn numbers(j: Judgement) -> [u64; 5] {
 fn healed_slot(heal: Heal) -> u64 {
     match heal {
         Heal::Nothing => 0,
-        Heal::Slot(_, index) => slot_number(index),
+        Heal::Slot(_, index) => index.number() as u64,
     }
 }
 
@@ -283,13 +282,6 @@ fn healed_pair(heal: Heal) -> u64 {
     match heal {
         Heal::Nothing => 0,
         Heal::Slot(pair, _) => pair as u64,
-    }
-}
-
-fn slot_number(index: SlotIndex) -> u64 {
-    match index {
-        SlotIndex::A => 1,
-        SlotIndex::B => 2,
     }
 }
 

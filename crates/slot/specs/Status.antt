@@ -13,6 +13,11 @@ abbrev pub indexNumber : SlotIndex → ℕ
 indexNumber SlotIndex.A = 0
 indexNumber SlotIndex.B = 1
 
+-- Where 0 stands for no slot: 1 A, 2 B.
+abbrev pub slotNumber : SlotIndex → ℕ
+slotNumber SlotIndex.A = 1
+slotNumber SlotIndex.B = 2
+
 abbrev pub other : SlotIndex → SlotIndex
 other SlotIndex.A = SlotIndex.B
 other SlotIndex.B = SlotIndex.A

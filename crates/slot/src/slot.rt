@@ -33,7 +33,7 @@ ghost use mathlib.Core.Path.{_≡_};
 ghost use lib.ListN.{length};
 ghost use lib.Dec.{eqb};
 ghost use Rattle.codec.specs.Place.{Part};
-ghost use Rattle.slot.specs.Status.{indexNumber, other, code, isValid, validInfo};
+ghost use Rattle.slot.specs.Status.{indexNumber, slotNumber, other, code, isValid, validInfo};
 ghost use Rattle.slot.specs.Read.{payloadStart, payloadLength};
 
 // Which slot of a pair.
@@ -50,6 +50,16 @@ impl SlotIndex {
         match self {
             SlotIndex::A => 0,
             SlotIndex::B => 1,
+        }
+    }
+
+    // Its number where 0 stands for no slot: 1 A, 2 B.
+    pub fn number(self) -> u8
+        ensures { λ r. ⌜ r ≡ slotNumber self ⌝ }
+    {
+        match self {
+            SlotIndex::A => 1,
+            SlotIndex::B => 2,
         }
     }
 

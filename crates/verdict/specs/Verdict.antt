@@ -3,7 +3,7 @@ use mathlib.Core.Bool.{Bool, true, false, cond}
 use mathlib.Core.List.{List, [], _∷_}
 use Prim.Native.Nat.{ℕ}
 use Rattle.slot.specs.declared.slot.SlotIndex.{SlotIndex}
-use Rattle.slot.specs.Status.{other}
+use Rattle.slot.specs.Status.{slotNumber, other}
 use Rattle.candidate.specs.declared.pairs.MetaSeq.{MetaSeq}
 use Rattle.candidate.specs.declared.pairs.Opposite.{Opposite}
 use Rattle.candidate.specs.declared.pairs.PairCase.{PairCase}
@@ -101,7 +101,7 @@ standingNumber Standing.Refused = 3
 -- 0 none, 1 A, 2 B.
 abbrev pub winnerNumber : WinnerSlot → ℕ
 winnerNumber WinnerSlot.Nothing = 0
-winnerNumber (WinnerSlot.Slot index) = byIndex index 1 2
+winnerNumber (WinnerSlot.Slot index) = slotNumber index
 
 -- 0 Winner, 1 Nothing, 2 OlderDamaged, 3 InFlight, 4 Damage.
 abbrev pub slotVerdictNumber : SlotVerdict → ℕ

@@ -5,7 +5,7 @@ use Prim.Native.Nat.{ℕ}
 use lib.ListN.{length, replicate}
 use denote.Ref.{RefT, now}
 use Rattle.codec.specs.Place.{Part}
-use Rattle.slot.specs.Status.{code}
+use Rattle.slot.specs.Status.{slotNumber, code}
 use Rattle.slot.specs.Read.{validate, payloadStart, payloadLength, payload}
 use Rattle.slot.specs.declared.slot.SlotIndex.{SlotIndex}
 use Rattle.slot.specs.declared.slot.SlotInfo.{SlotInfo}
@@ -63,10 +63,6 @@ winnerNumber Winner.Lost = 2
 winnerNumber Winner.Refused = 3
 winnerNumber Winner.Empty = 4
 winnerNumber Winner.Fork = 5
-
-abbrev pub slotNumber : SlotIndex → ℕ
-slotNumber SlotIndex.A = 1
-slotNumber SlotIndex.B = 2
 
 abbrev pub winnerSlot : Winner → ℕ
 winnerSlot (Winner.Confirmed index) = slotNumber index

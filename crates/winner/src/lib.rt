@@ -7,7 +7,7 @@ use slot::slot::SlotIndex;
 use slot::slot::SlotStatus;
 ghost use mathlib.Core.Path.{_≡_};
 ghost use Rattle.pair.specs.Pair.{winnerInfo};
-ghost use Rattle.winner.specs.Winner.{readPair, WinnerPart, statusValues, winnerNumber, slotNumber, winnerSlot, flag, reportNumbers};
+ghost use Rattle.winner.specs.Winner.{readPair, WinnerPart, statusValues, winnerNumber, winnerSlot, flag, reportNumbers};
 
 // Validates both slots of a pair and returns the winner's payload, a part of its slot's own bytes; without a winner the part is empty,
 // at the start of A. The report is written beside it: the values of slot A's status, those of slot B's, and the codes of both, the
@@ -117,22 +117,12 @@ pub fn winner_slot(winner: Winner) -> u8
     ensures { λ r. ⌜ r ≡ winnerSlot winner ⌝ }
 {
     match winner {
-        Winner::Confirmed(index) => slot_number(index),
-        Winner::Unconfirmed(index) => slot_number(index),
+        Winner::Confirmed(index) => index.number(),
+        Winner::Unconfirmed(index) => index.number(),
         Winner::Lost => 0,
         Winner::Refused => 0,
         Winner::Empty => 0,
         Winner::Fork => 0,
-    }
-}
-
-// 1 for A, 2 for B.
-pub fn slot_number(index: SlotIndex) -> u8
-    ensures { λ r. ⌜ r ≡ slotNumber index ⌝ }
-{
-    match index {
-        SlotIndex::A => 1,
-        SlotIndex::B => 2,
     }
 }
 
