@@ -9,11 +9,11 @@ use Prim.Native.Nat.{ℕ, zero, suc, _+_, _*_, _/_, _%_, _-_}
 use lib.Dec.{eqb, ltb, leb}
 use lib.ListN.{length, getD, take, drop}
 use Rattle.codec.specs.Bytes.{bytes32}
+use Rattle.slot.specs.Status.{slotNumber}
 use Rattle.cases.specs.Hex.{decoded}
 use Rattle.verdict.specs.declared.verdict.Heal.{Heal}
 use Rattle.verdict.specs.declared.verdict.Judgement.{Judgement}
-use Rattle.verdict.specs.declared.verdict.WinnerSlot.{WinnerSlot}
-use Rattle.verdict.specs.Verdict.{winnerNumber, verdictBytes}
+use Rattle.verdict.specs.Verdict.{verdictBytes}
 use Rattle.verdict.specs.Judge.{verdicts, judgeRow}
 use Rattle.judge_frames.specs.Frames.{frameWidth, verdictWidth, pairs, row, refusal}
 
@@ -79,7 +79,7 @@ verdictLines (suc n) s = line (take verdictWidth s) ++ verdictLines n (drop verd
 -- The slot to heal, as a winner is numbered, and its pair.
 abbrev pub healSlot : Heal → ℕ
 healSlot Heal.Nothing = 0
-healSlot (Heal.Slot pair index) = winnerNumber (WinnerSlot.Slot index)
+healSlot (Heal.Slot pair index) = slotNumber index
 
 abbrev pub healPair : Heal → ℕ
 healPair Heal.Nothing = 0

@@ -1,17 +1,14 @@
 // The text of program `verdicts`: what it prints for what it reads, as a function on slices.
 use cases::hex::Decoded;
-use slot::slot::SlotIndex;
 use verdict::verdict::Heal;
 use verdict::verdict::Judged;
 use verdict::verdict::Judgement;
-use verdict::verdict::WinnerSlot;
 ghost use mathlib.Core.Path.{_≡_};
 ghost use mathlib.Core.List.{_++_};
 ghost use Prim.Native.Nat.{_+_, _*_, _≤_, _<_};
 ghost use lib.ListN.{length, getD, drop};
 ghost use Rattle.codec.specs.Bytes.{put};
 ghost use Rattle.cases.specs.Hex.{isSome, decodeOut};
-ghost use Rattle.verdict.specs.Verdict.{winnerNumber};
 ghost use Rattle.judge_frames.specs.Frames.{frameWidth, verdictWidth, pairs};
 ghost use Rattle.verdict_text.specs.Text.{markOf, markLine, frameLine, frameOf, frameLines, hexDigit, line, refusalLine, verdictLine, lastLine, verdictLines, healSlot, healPair, flag, judgementBytes, judgedText, framesText, lineCount};
 ghost use Rattle.verdict_text.specs.Respond.{mostPairs, responseRoom, responded, respondedOut, given};
@@ -154,21 +151,12 @@ fn put_verdicts(output: &mut [u8], verdicts: &[u8], n: usize)
     }
 }
 
-fn slot_number(index: SlotIndex) -> u8
-    ensures { λ r. ⌜ r ≡ winnerNumber (WinnerSlot.Slot index) ⌝ }
-{
-    match index {
-        SlotIndex::A => 1,
-        SlotIndex::B => 2,
-    }
-}
-
 fn heal_slot(heal: Heal) -> u8
     ensures { λ r. ⌜ r ≡ healSlot heal ⌝ }
 {
     match heal {
         Heal::Nothing => 0,
-        Heal::Slot(_, index) => slot_number(index),
+        Heal::Slot(_, index) => index.number(),
     }
 }
 
