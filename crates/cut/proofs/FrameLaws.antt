@@ -20,8 +20,8 @@ use Rattle.frame.specs.Frame.{partBy, partOf}
 use Rattle.frame.specs.declared.frame.SlotPart.{SlotPart}
 use Rattle.frame.proofs.PartLaws.{InfoFits, ValidFits, FactsFit, part-range, part-fits}
 use Rattle.verdict.specs.Verdict.{verdictBytes}
-use Rattle.verdict.specs.Judge.{verdicts, judgeRow}
-use Rattle.judge_frames.specs.Frames.{verdictWidth, judged, judgedBytes, refusedRow, markOf}
+use Rattle.verdict.specs.Judge.{refusedRow, verdicts, judgeRow}
+use Rattle.judge_frames.specs.Frames.{verdictWidth, judged, judgedBytes, markOf}
 use Rattle.verdict.specs.declared.verdict.Judged.{Judged}
 use Rattle.judge_frames.proofs.FilledLaws.{Filled, AllFilled, filled-judged, filled-bytes}
 use Rattle.cut.specs.Store.{Every, Bytes, Slot, Pair, status, numbersGiven, checksumGiven, filled, slotPart, pairPart, parts, frames, Typed}

@@ -15,13 +15,13 @@ use Rattle.frame.specs.declared.frame.SlotPart.{SlotPart}
 use Rattle.candidate.specs.Pairs.{numbered, badPayload, badHeader, oppositeSlot, unsupported, pairCase, hasCandidate}
 use Rattle.candidate.specs.Numbers.{slots, number, highest, highestOther, qualifies}
 use Rattle.verdict.specs.Verdict.{byIndex, pairVerdict}
-use Rattle.verdict.specs.Judge.{verdictsFrom, firstVerdicts, anyCandidate, pageCandidate, firstTally, rowRules, verdicts, judgeRow}
+use Rattle.verdict.specs.Judge.{refusedRow, verdictsFrom, firstVerdicts, anyCandidate, pageCandidate, firstTally, rowRules, verdicts, judgeRow}
 use Rattle.candidate.specs.declared.pairs.PairPart.{PairPart}
 use Rattle.candidate.specs.declared.pairs.PairCase.{PairCase}
 use Rattle.candidate.specs.declared.pairs.MetaSeq.{MetaSeq}
 use Rattle.verdict.specs.declared.verdict.PairVerdict.{PairVerdict}
-use Rattle.judge_frames.specs.Frames.{refusedRow}
-use Rattle.judge.specs.Row.{partRead, rowRead, rowJudged, rowVerdicts}
+use Rattle.judge_step.specs.Step.{partRead}
+use Rattle.judge.specs.Row.{rowRead, rowJudged, rowVerdicts}
 use Rattle.verdict.specs.declared.verdict.Judged.{Judged}
 use Rattle.cut.specs.Store.{Slot, Pair, status, filled, slotPart, pairPart, parts, slotRead, reads}
 use Rattle.cut.proofs.FrameLaws.{not-refused}

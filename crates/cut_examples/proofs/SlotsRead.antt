@@ -17,9 +17,9 @@ use Rattle.frame.specs.declared.frame.SlotPart.{SlotPart}
 use Rattle.candidate.specs.declared.pairs.PairPart.{PairPart}
 use Rattle.verdict.specs.declared.verdict.Heal.{Heal}
 use Rattle.judge_frames.specs.Frames.{judged, judgedBytes, framesOf, markOf}
-use Rattle.judge.specs.Row.{partRead}
-use Rattle.judge.specs.declared.SlotRead.{SlotRead}
-use Rattle.judge.specs.declared.PairRead.{PairRead}
+use Rattle.judge_step.specs.Step.{partRead}
+use Rattle.judge_step.specs.declared.SlotRead.{SlotRead}
+use Rattle.judge_step.specs.declared.PairRead.{PairRead}
 use Rattle.verdict.specs.declared.verdict.Judged.{Judged}
 use Rattle.cut.specs.Store.{Decoder, Slot, Pair, accepts, report, filled, slotPart, pairPart, frames, slotRead}
 use Rattle.cut.specs.Cut.{Write, after, handed}

@@ -13,18 +13,18 @@ use denote.Memory.{pointee, mem}
 use denote.Slice.{sliceTy}
 use denote.Struct.Laws as LL
 use Rattle.verdict.specs.declared.verdict.PairVerdict.{PairVerdict}
-use Rattle.judge.specs.declared.PairRead.{PairRead}
-use Rattle.judge.specs.declared.Progress.{Progress}
-use Rattle.judge.specs.declared.Stepped.{Stepped}
+use Rattle.judge_step.specs.declared.PairRead.{PairRead}
+use Rattle.judge_step.specs.declared.Progress.{Progress}
+use Rattle.judge_step.specs.declared.Stepped.{Stepped}
 use Rattle.judge.proofs.WalkLaws.{Plainly, struct-kind}
-use Rattle.judge.proofs.PairRead as P
-use Rattle.judge.proofs.PairRead.Laws as P′
+use Rattle.judge_step.proofs.PairRead as P
+use Rattle.judge_step.proofs.PairRead.Laws as P′
 use Rattle.verdict.proofs.verdict.PairVerdict as X
 use Rattle.verdict.proofs.verdict.PairVerdict.Laws as X′
-use Rattle.judge.proofs.Progress as S
-use Rattle.judge.proofs.Progress.Laws as S′
-use Rattle.judge.proofs.Stepped as N
-use Rattle.judge.proofs.Stepped.Laws as N′
+use Rattle.judge_step.proofs.Progress as S
+use Rattle.judge_step.proofs.Progress.Laws as S′
+use Rattle.judge_step.proofs.Stepped as N
+use Rattle.judge_step.proofs.Stepped.Laws as N′
 
 -- A pair as read, a pair's verdict, what is carried, and a step's answer.
 abbrev pub RP : RattleType

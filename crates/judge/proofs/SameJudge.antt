@@ -26,16 +26,17 @@ use Rattle.slot.proofs.slot.NumberedHeader.Laws as H′
 use Rattle.frame.proofs.PartLaws.{InfoFits, ValidFits, FactsFit, part-range, part-fits}
 use Rattle.verdict.specs.declared.verdict.PairVerdict.{PairVerdict}
 use Rattle.verdict.specs.Verdict.{verdictBytes}
-use Rattle.verdict.specs.Judge.{verdicts}
-use Rattle.judge_frames.specs.Frames.{verdictWidth, judged, judgedBytes, refusedRow, framesOf, markOf}
+use Rattle.verdict.specs.Judge.{refusedRow, verdicts}
+use Rattle.judge_frames.specs.Frames.{verdictWidth, judged, judgedBytes, framesOf, markOf}
 use Rattle.judge_frames.proofs.FilledLaws.{Filled, AllFilled, filled-judged, filled-bytes}
-use Rattle.judge.specs.declared.SlotRead.{SlotRead}
-use Rattle.judge.specs.declared.PairRead.{PairRead}
-use Rattle.judge.specs.Row.{partRead, rowRead, rowJudged, rowVerdicts}
-use Rattle.judge.proofs.SlotRead as R
-use Rattle.judge.proofs.SlotRead.Laws as R′
-use Rattle.judge.proofs.PairRead as P
-use Rattle.judge.proofs.PairRead.Laws as P′
+use Rattle.judge_step.specs.declared.SlotRead.{SlotRead}
+use Rattle.judge_step.specs.declared.PairRead.{PairRead}
+use Rattle.judge_step.specs.Step.{partRead}
+use Rattle.judge_step.proofs.SlotRead as R
+use Rattle.judge_step.proofs.SlotRead.Laws as R′
+use Rattle.judge_step.proofs.PairRead as P
+use Rattle.judge_step.proofs.PairRead.Laws as P′
+use Rattle.judge.specs.Row.{rowRead, rowJudged, rowVerdicts}
 
 -- ---- what the types of the row's records say of its values
 

@@ -19,17 +19,17 @@ use Rattle.candidate.specs.Maxima.{noteAll}
 use Rattle.verdict.specs.declared.verdict.PairVerdict.{PairVerdict}
 use Rattle.verdict.specs.declared.verdict.Standing.{Standing}
 use Rattle.verdict.specs.Verdict.{noWinner}
-use Rattle.verdict.specs.Judge.{lastVerdicts, demoted, healOf, heal}
+use Rattle.verdict.specs.Judge.{refusedRow, lastVerdicts, demoted, healOf, heal}
 use Rattle.verdict.specs.Passes.{verdictsBy, tallies}
 use Rattle.verdict.proofs.PassLaws.{row-judged, verdicts-judged}
 use Rattle.verdict.specs.declared.verdict.Judged.{Judged}
-use Rattle.judge_frames.specs.Frames.{refusedRow}
-use Rattle.judge.specs.declared.SlotRead.{SlotRead}
-use Rattle.judge.specs.declared.PairRead.{PairRead}
-use Rattle.judge.specs.declared.Progress.{Progress}
-use Rattle.judge.specs.declared.Stepped.{Stepped}
-use Rattle.judge.specs.Row.{pairRead, rowRead, rowJudged, rowVerdicts}
-use Rattle.judge.specs.Sweep.{begun, finished, withMaxima, withTally, withHeal, rulesOf, numberPair, judgePair, settlePair, firstVerdict, stepped, stepAt, rowFromPair, verdictsFromPair, sweptRow, sweptVerdicts}
+use Rattle.judge_step.specs.declared.SlotRead.{SlotRead}
+use Rattle.judge_step.specs.declared.PairRead.{PairRead}
+use Rattle.judge_step.specs.declared.Progress.{Progress}
+use Rattle.judge_step.specs.declared.Stepped.{Stepped}
+use Rattle.judge_step.specs.Step.{pairRead, begun, finished, withMaxima, withTally, withHeal, rulesOf, numberPair, judgePair, settlePair, firstVerdict, stepped}
+use Rattle.judge.specs.Row.{rowRead, rowJudged, rowVerdicts}
+use Rattle.judge.specs.Sweep.{stepAt, rowFromPair, verdictsFromPair, sweptRow, sweptVerdicts}
 
 -- ---- what a pass keeps
 

@@ -5,21 +5,12 @@ use mathlib.Core.List.{List, [], _∷_}
 use Prim.Native.Nat.{ℕ}
 use lib.Dec.{eqb}
 use lib.ListN.{length}
-use Rattle.frame.specs.declared.frame.SlotPart.{SlotPart}
-use Rattle.frame.specs.Frame.{partOf}
 use Rattle.candidate.specs.declared.pairs.PairPart.{PairPart}
 use Rattle.verdict.specs.declared.verdict.PairVerdict.{PairVerdict}
-use Rattle.verdict.specs.Judge.{verdicts, judgeRow}
 use Rattle.verdict.specs.declared.verdict.Judged.{Judged}
-use Rattle.judge_frames.specs.Frames.{refusedRow}
-use Rattle.judge.specs.declared.SlotRead.{SlotRead}
-use Rattle.judge.specs.declared.PairRead.{PairRead}
-
-abbrev pub partRead : SlotRead → SlotPart
-partRead s = partOf (s .status) (s .facts)
-
-abbrev pub pairRead : PairRead → PairPart
-pairRead p = record { a = partRead (p .a); b = partRead (p .b) }
+use Rattle.verdict.specs.Judge.{refusedRow, verdicts, judgeRow}
+use Rattle.judge_step.specs.declared.PairRead.{PairRead}
+use Rattle.judge_step.specs.Step.{pairRead}
 
 abbrev pub rowRead : List PairRead → List PairPart
 rowRead [] = []

@@ -15,9 +15,9 @@ use Rattle.frame.proofs.PartLaws.{PartFits, part-read, length-part, part-next}
 use Rattle.candidate.specs.declared.pairs.PairPart.{PairPart}
 use Rattle.candidate.proofs.NumberLaws.{same-test}
 use Rattle.verdict.specs.Verdict.{verdictBytes}
-use Rattle.verdict.specs.Judge.{verdicts, judgeRow}
+use Rattle.verdict.specs.Judge.{refusedRow, verdicts, judgeRow}
 use Rattle.verdict.specs.declared.verdict.Judged.{Judged}
-use Rattle.judge_frames.specs.Frames.{frameWidth, verdictWidth, pairs, pairFrom, row, partInRange, pairInRange, inRange, refusal, judged, judgedBytes, refusedRow, framesOf, markOf}
+use Rattle.judge_frames.specs.Frames.{frameWidth, verdictWidth, pairs, pairFrom, row, partInRange, pairInRange, inRange, refusal, judged, judgedBytes, framesOf, markOf}
 
 -- A part that a frame can hold: its fields fit, and its status and facts are in range.
 pub record Filled (p : SlotPart) : Type 0 where

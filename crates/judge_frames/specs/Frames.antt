@@ -75,7 +75,3 @@ framesOf (p ∷ ps) = partBytes (p .a) ++ (partBytes (p .b) ++ framesOf ps)
 -- The mark as a frame's host hands it over.
 abbrev pub markOf : Bool → ℕ
 markOf clean = cond clean 1 0
-
--- What is refused of so many pairs and room for so many verdicts, in this order, and 0 for nothing: 8 no pair, 9 another number of verdicts.
-unfoldable pub refusedRow : ℕ → ℕ → ℕ
-refusedRow pairs room = cond (eqb pairs 0) 8 (cond (eqb room pairs) 0 9)

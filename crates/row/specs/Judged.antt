@@ -8,7 +8,7 @@ use lib.ListN.{length, take, drop, replicate}
 use Rattle.verdict.specs.declared.verdict.PairVerdict.{PairVerdict}
 use Rattle.verdict.specs.declared.verdict.Standing.{Standing}
 use Rattle.verdict.specs.Verdict.{noWinner, verdictBytes}
-use Rattle.judge.specs.declared.PairRead.{PairRead}
+use Rattle.judge_step.specs.declared.PairRead.{PairRead}
 use Rattle.verdict.specs.declared.verdict.Judged.{Judged}
 use Rattle.judge_frames.specs.Frames.{frameWidth, pairs, row}
 use Rattle.judge.specs.Row.{rowJudged, rowVerdicts}

@@ -127,6 +127,11 @@ writable anyRefused pageCandidate first last =
 
 -- ---- the store
 
+-- What is refused of so many pairs and room for so many verdicts, in this order, and 0 for nothing: 8 no pair, 9 another number of
+-- verdicts.
+unfoldable pub refusedRow : ℕ → ℕ → ℕ
+refusedRow pairs room = cond (eqb pairs 0) 8 (cond (eqb room pairs) 0 9)
+
 unfoldable pub rowRules : List PairPart → Bool → StoreRules
 rowRules ps clean = storeRules clean (firstTally ps (firstVerdicts ps)) (volumeVerdict (firstVerdicts ps))
 

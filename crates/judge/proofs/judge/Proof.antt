@@ -46,26 +46,27 @@ use Rattle.verdict.specs.declared.verdict.PairVerdict.{PairVerdict}
 use Rattle.verdict.specs.declared.verdict.Judged.{Judged}
 use Rattle.verdict.proofs.verdict.Judged as J
 use Rattle.verdict.proofs.verdict.Judged.Laws as J′
-use Rattle.judge.specs.declared.PairRead.{PairRead}
-use Rattle.judge.specs.declared.Progress.{Progress}
-use Rattle.judge.specs.Sweep.{sweptRow, sweptVerdicts, finished}
+use Rattle.judge_step.specs.declared.PairRead.{PairRead}
+use Rattle.judge_step.specs.declared.Progress.{Progress}
+use Rattle.judge_step.specs.Step.{finished}
+use Rattle.judge.specs.Sweep.{sweptRow, sweptVerdicts}
 use Rattle.judge.proofs.LendLaws.{LentAgain, lends-again, comes-back}
 use Rattle.judge.proofs.SweepLaws.{start, numbers, kept, judged, firsts, settled, lasts as finals, start-fits, numbers-count, judged-count, passes-judge}
 use Rattle.judge.proofs.WalkLaws.{Content, empty, holds, cells, rights, env, Plainly, allocates, frees-all, local-of, field-of, behind, sets, lends, owns-it, calls-for}
 use Rattle.judge.proofs.RowTypes.{RP, RV, RS, sval, pairs-ty, out-ty, progress}
-use Rattle.judge.proofs.Progress.Laws as S′
-use Rattle.judge.proofs.begin as begin
-use Rattle.judge.proofs.begin.Symbol as begin-def
-use Rattle.judge.proofs.begin.Symbol.{name as #judge·begin}
-use Rattle.judge.proofs.begin.Met as begin-thm
+use Rattle.judge_step.proofs.Progress.Laws as S′
+use Rattle.judge_step.proofs.begin as begin
+use Rattle.judge_step.proofs.begin.Symbol as begin-def
+use Rattle.judge_step.proofs.begin.Symbol.{name as #judge-step·begin}
+use Rattle.judge_step.proofs.begin.Met as begin-thm
 use Rattle.judge.proofs.sweep as sweep
 use Rattle.judge.proofs.sweep.Symbol as sweep-def
 use Rattle.judge.proofs.sweep.Symbol.{name as #judge·sweep}
 use Rattle.judge.proofs.sweep.Met as sweep-thm
-use Rattle.judge.proofs.finish as finish
-use Rattle.judge.proofs.finish.Symbol as finish-def
-use Rattle.judge.proofs.finish.Symbol.{name as #judge·finish}
-use Rattle.judge.proofs.finish.Met as finish-thm
+use Rattle.judge_step.proofs.finish as finish
+use Rattle.judge_step.proofs.finish.Symbol as finish-def
+use Rattle.judge_step.proofs.finish.Symbol.{name as #judge-step·finish}
+use Rattle.judge_step.proofs.finish.Met as finish-thm
 use Rattle.judge.proofs.judge.Key.{name as #judge·judge}
 use Rattle.judge.proofs.judge as judge
 use Rattle.judge.proofs.judge.Statement as stated
@@ -395,7 +396,7 @@ module _ {M : Type 1} (𝓤 : URA M) (H : Heap 𝓤) (A : Atoms 𝓤) (W : Given
   -- ---- the passes, from the last to the first
 
   module _ (𝓣 : Tables 𝓤 H) (sweep-known : Triple 𝓤 (𝓣 .C #judge·sweep) (Sweep 𝓤 H A mem run))
-      (finish-known : Triple 𝓤 (𝓣 .C #judge·finish) (Finish 𝓤 H A mem run)) (l : ℕ → ℕ) where
+      (finish-known : Triple 𝓤 (𝓣 .C #judge-step·finish) (Finish 𝓤 H A mem run)) (l : ℕ → ℕ) where
     abbrev C : Calls 𝓤 H
     C = 𝓣 .C
 
@@ -460,8 +461,8 @@ module _ {M : Type 1} (𝓤 : URA M) (H : Heap 𝓤) (A : Atoms 𝓤) (W : Given
         (and-then ! (lit ! tt) (and-then ! (local-of ! (4 + #start) refl) (no-more !))))) (λ good long.
         land ! (from ! (stop !)) (init ! (5 + #numbered) refl (progress W .typed s₁ good)) $ second (ready₁ good long))
 
-  module _ (𝓣 : Tables 𝓤 H) (begin-known : Triple 𝓤 (𝓣 .C #judge·begin) (Begin 𝓤 H A mem run))
-      (sweep-known : Triple 𝓤 (𝓣 .C #judge·sweep) (Sweep 𝓤 H A mem run)) (finish-known : Triple 𝓤 (𝓣 .C #judge·finish) (Finish 𝓤 H A mem run)) where
+  module _ (𝓣 : Tables 𝓤 H) (begin-known : Triple 𝓤 (𝓣 .C #judge-step·begin) (Begin 𝓤 H A mem run))
+      (sweep-known : Triple 𝓤 (𝓣 .C #judge·sweep) (Sweep 𝓤 H A mem run)) (finish-known : Triple 𝓤 (𝓣 .C #judge-step·finish) (Finish 𝓤 H A mem run)) where
     abbrev Entry : List (Item 𝓤)
     Entry = (‵ (flft κ q) ⊛ ‵ (flft κ′ q′) ⊛ ‵ ftrue) ∷ ‵ (owns (ShrSlice (named 0) κ RP ∷ bool ∷ MutSlice (named 1) κ′ RV ∷ []) a vals) ∷ []
 
@@ -487,8 +488,8 @@ module _ {M : Type 1} (𝓤 : URA M) (H : Heap 𝓤) (A : Atoms 𝓤) (W : Given
         first-pass 𝓣 sweep-known finish-known l (ready₀ good)))
 
 module _ {M : Type 1} (𝓤 : URA M) (H : Heap 𝓤) (A : Atoms 𝓤) (W : Given 𝓤 H A) (mem : Memory → SProp 𝓤) (run : Routine → Fun 𝓤) (𝓣 : Tables 𝓤 H)
-    (known-begin : Triple 𝓤 (𝓣 .C #judge·begin) (Begin 𝓤 H A mem run)) (known-sweep : Triple 𝓤 (𝓣 .C #judge·sweep) (Sweep 𝓤 H A mem run))
-    (known-finish : Triple 𝓤 (𝓣 .C #judge·finish) (Finish 𝓤 H A mem run)) where
+    (known-begin : Triple 𝓤 (𝓣 .C #judge-step·begin) (Begin 𝓤 H A mem run)) (known-sweep : Triple 𝓤 (𝓣 .C #judge·sweep) (Sweep 𝓤 H A mem run))
+    (known-finish : Triple 𝓤 (𝓣 .C #judge-step·finish) (Finish 𝓤 H A mem run)) where
   judge-walks : Walks 𝓤 H A judge.ended stayed (WpFn 𝓤 H (𝓣 .C) (𝓣 .Λ) code.function) (judge.clauses 𝓤 H A mem run)
   judge-walks =
       walked 𝓤 H A judge.ended stayed (judge.clauses 𝓤 H A mem run) (WpFn 𝓤 H (𝓣 .C) (𝓣 .Λ) code.function)
@@ -516,7 +517,7 @@ judge-spec 𝓤 H 𝓜 𝓖 𝓡 =
     entered 𝓤 H (tripleOf 𝓤 H (𝓖 .A) judge.signature (judge.spec 𝓤 H (𝓖 .A) (𝓜 .mem) (𝓡 .run)))
     (tables 𝓤 H 𝓜 𝓡 code.env .C) (tables 𝓤 H 𝓜 𝓡 code.env .Λ) #judge·judge code.function (code.unfolded 𝓤 H 𝓜 𝓡)
     (judge-meets 𝓤 H (𝓖 .A) (givenOf 𝓤 H 𝓜 𝓖) (𝓜 .mem) (𝓡 .run) (tablesOf 𝓤 H 𝓜 (tables 𝓤 H 𝓜 𝓡 code.env))
-    (cited 𝓤 H (Begin 𝓤 H (𝓖 .A) (𝓜 .mem) (𝓡 .run)) 𝓜 𝓡 code.env #judge·begin begin-def.routine code.calls-judge·begin (begin-thm.met 𝓤 H 𝓜 𝓖 𝓡))
+    (cited 𝓤 H (Begin 𝓤 H (𝓖 .A) (𝓜 .mem) (𝓡 .run)) 𝓜 𝓡 code.env #judge-step·begin begin-def.routine code.calls-judge-step·begin (begin-thm.met 𝓤 H 𝓜 𝓖 𝓡))
     (cited 𝓤 H (Sweep 𝓤 H (𝓖 .A) (𝓜 .mem) (𝓡 .run)) 𝓜 𝓡 code.env #judge·sweep sweep-def.routine code.calls-judge·sweep (sweep-thm.met 𝓤 H 𝓜 𝓖 𝓡))
-    (cited 𝓤 H (Finish 𝓤 H (𝓖 .A) (𝓜 .mem) (𝓡 .run)) 𝓜 𝓡 code.env #judge·finish finish-def.routine code.calls-judge·finish
+    (cited 𝓤 H (Finish 𝓤 H (𝓖 .A) (𝓜 .mem) (𝓡 .run)) 𝓜 𝓡 code.env #judge-step·finish finish-def.routine code.calls-judge-step·finish
     (finish-thm.met 𝓤 H 𝓜 𝓖 𝓡)))

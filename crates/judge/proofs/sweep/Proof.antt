@@ -54,24 +54,25 @@ use denote.Exit.{yes}
 use Rattle.verdict.specs.declared.verdict.PairVerdict.{PairVerdict}
 use Rattle.verdict.specs.declared.verdict.Standing.{Standing}
 use Rattle.verdict.specs.Verdict.{noWinner}
-use Rattle.judge.specs.declared.PairRead.{PairRead}
-use Rattle.judge.specs.declared.Progress.{Progress}
-use Rattle.judge.specs.declared.Stepped.{Stepped}
-use Rattle.judge.specs.Sweep.{stepped, rowFromPair, verdictsFromPair, sweptRow, sweptVerdicts}
+use Rattle.judge_step.specs.declared.PairRead.{PairRead}
+use Rattle.judge_step.specs.declared.Progress.{Progress}
+use Rattle.judge_step.specs.declared.Stepped.{Stepped}
+use Rattle.judge_step.specs.Step.{stepped}
+use Rattle.judge.specs.Sweep.{rowFromPair, verdictsFromPair, sweptRow, sweptVerdicts}
 use Rattle.judge.proofs.SweepLaws.{noPair, row-next, verdicts-next, row-done, verdicts-done}
 use Rattle.judge.proofs.WalkLaws.{Content, empty, holds, cells, rights, env, allocates, frees-all, forgets, local-of, field-of, known, sets, addresses, owns-it, loads, stores, calls-for}
 use Rattle.judge.proofs.RowTypes.{RP, RV, RS, RN, pval, vval, sval, nval, pairs-ty, out-ty, pair, verdict, progress, stepped-on, pair-size, verdict-size}
-use Rattle.judge.proofs.PairRead as P
-use Rattle.judge.proofs.PairRead.Laws as P′
+use Rattle.judge_step.proofs.PairRead as P
+use Rattle.judge_step.proofs.PairRead.Laws as P′
 use Rattle.verdict.proofs.verdict.PairVerdict.Laws as X′
-use Rattle.judge.proofs.Progress as S
-use Rattle.judge.proofs.Progress.Laws as S′
-use Rattle.judge.proofs.Stepped as N
-use Rattle.judge.proofs.Stepped.Laws as N′
-use Rattle.judge.proofs.step as step′
-use Rattle.judge.proofs.step.Symbol as step-def
-use Rattle.judge.proofs.step.Symbol.{name as #judge·step}
-use Rattle.judge.proofs.step.Met as step-thm
+use Rattle.judge_step.proofs.Progress as S
+use Rattle.judge_step.proofs.Progress.Laws as S′
+use Rattle.judge_step.proofs.Stepped as N
+use Rattle.judge_step.proofs.Stepped.Laws as N′
+use Rattle.judge_step.proofs.step as step′
+use Rattle.judge_step.proofs.step.Symbol as step-def
+use Rattle.judge_step.proofs.step.Symbol.{name as #judge-step·step}
+use Rattle.judge_step.proofs.step.Met as step-thm
 use Rattle.judge.proofs.sweep.Key.{name as #judge·sweep}
 use Rattle.judge.proofs.sweep as sweep
 use Rattle.judge.proofs.sweep.Statement as stated
@@ -289,7 +290,7 @@ module _ {M : Type 1} (𝓤 : URA M) (H : Heap 𝓤) (A : Atoms 𝓤) (W : Given
 
   -- ---- the loop
 
-  module _ (𝓣 : Tables 𝓤 H) (step-known : Triple 𝓤 (𝓣 .C #judge·step) (Step 𝓤 H A mem run)) (r : Share) (l : ℕ → ℕ) where
+  module _ (𝓣 : Tables 𝓤 H) (step-known : Triple 𝓤 (𝓣 .C #judge-step·step) (Step 𝓤 H A mem run)) (r : Share) (l : ℕ → ℕ) where
     abbrev C : Calls 𝓤 H
     C = 𝓣 .C
 
@@ -476,7 +477,7 @@ module _ {M : Type 1} (𝓤 : URA M) (H : Heap 𝓤) (A : Atoms 𝓤) (W : Given
     loops : Sq W (Open r ∷ rights locals l ∷ cells locals l (contents 0 start)) (runs C Λ En mirs.t-4 (atRet En Post))
     loops = split ! $ move ! (1 ∷ []) $ split ! $ move ! (0 ∷ 2 ∷ []) $ first ! $ blocks ! $ all-turns
 
-  module _ (𝓣 : Tables 𝓤 H) (step-known : Triple 𝓤 (𝓣 .C #judge·step) (Step 𝓤 H A mem run)) where
+  module _ (𝓣 : Tables 𝓤 H) (step-known : Triple 𝓤 (𝓣 .C #judge-step·step) (Step 𝓤 H A mem run)) where
     -- The body up to the loop; both borrows are opened.
     walk : ent 𝓤 Entry (WpFn 𝓤 H (𝓣 .C) (𝓣 .Λ) code.function (pairs-val ∷ out-val ∷ vint w8 pass ∷ sval start ∷ []) Post)
     walk =
@@ -493,7 +494,7 @@ module _ {M : Type 1} (𝓤 : URA M) (H : Heap 𝓤) (A : Atoms 𝓤) (W : Given
         move ! (19 ∷ []) $ use1 W (later (some (λ (r : Share). Open r))) opens $ await ! tt $ pick ! (λ r. loops 𝓣 step-known r l))
 
 module _ {M : Type 1} (𝓤 : URA M) (H : Heap 𝓤) (A : Atoms 𝓤) (W : Given 𝓤 H A) (mem : Memory → SProp 𝓤) (run : Routine → Fun 𝓤) where
-  sweep-walks : (𝓣 : Tables 𝓤 H) → Triple 𝓤 (𝓣 .C #judge·step) (Step 𝓤 H A mem run)
+  sweep-walks : (𝓣 : Tables 𝓤 H) → Triple 𝓤 (𝓣 .C #judge-step·step) (Step 𝓤 H A mem run)
       → Walks 𝓤 H A sweep.ended stayed (WpFn 𝓤 H (𝓣 .C) (𝓣 .Λ) code.function) (sweep.clauses 𝓤 H A mem run)
   sweep-walks 𝓣 known = walked 𝓤 H A sweep.ended stayed (sweep.clauses 𝓤 H A mem run) (WpFn 𝓤 H (𝓣 .C) (𝓣 .Λ) code.function)
       (λ κs. (slice-vals, (slice-vals, (uint-vals w8, ((λ s. sval s ∷ []), tt)))))
@@ -504,7 +505,7 @@ module _ {M : Type 1} (𝓤 : URA M) (H : Heap 𝓤) (A : Atoms 𝓤) (W : Given
       (a .1 .1 .0) (a .1 .1 .1 .0) (are .0 .0 .1) (are .1 .0 .0 .1) (are .1 .1 .0 .1) (are .1 .1 .1 .0) required 𝓣 known))
 
 sweep-meets : {M : Type 1} (𝓤 : URA M) (H : Heap 𝓤) (A : Atoms 𝓤) → Given 𝓤 H A → (mem : Memory → SProp 𝓤) (run : Routine → Fun 𝓤) (𝓣 : Tables 𝓤 H)
-    → Triple 𝓤 (𝓣 .C #judge·step) (Step 𝓤 H A mem run) → Meets 𝓤 H A sweep.signature (WpFn 𝓤 H (𝓣 .C) (𝓣 .Λ) code.function) (sweep.spec 𝓤 H A mem run)
+    → Triple 𝓤 (𝓣 .C #judge-step·step) (Step 𝓤 H A mem run) → Meets 𝓤 H A sweep.signature (WpFn 𝓤 H (𝓣 .C) (𝓣 .Λ) code.function) (sweep.spec 𝓤 H A mem run)
 sweep-meets 𝓤 H A W mem run 𝓣 known =
     walk-meets 𝓤 H A sweep.ended stayed W (
       goes-none-slice 𝓤 H A W 2 (0 ∷ []) tt (plain (λ _. RP)) yes,
@@ -522,4 +523,4 @@ sweep-spec 𝓤 H 𝓜 𝓖 𝓡 =
     entered 𝓤 H (tripleOf 𝓤 H (𝓖 .A) sweep.signature (sweep.spec 𝓤 H (𝓖 .A) (𝓜 .mem) (𝓡 .run)))
     (tables 𝓤 H 𝓜 𝓡 code.env .C) (tables 𝓤 H 𝓜 𝓡 code.env .Λ) #judge·sweep code.function (code.unfolded 𝓤 H 𝓜 𝓡)
     (sweep-meets 𝓤 H (𝓖 .A) (givenOf 𝓤 H 𝓜 𝓖) (𝓜 .mem) (𝓡 .run) (tablesOf 𝓤 H 𝓜 (tables 𝓤 H 𝓜 𝓡 code.env))
-    (cited 𝓤 H (Step 𝓤 H (𝓖 .A) (𝓜 .mem) (𝓡 .run)) 𝓜 𝓡 code.env #judge·step step-def.routine code.calls-judge·step (step-thm.met 𝓤 H 𝓜 𝓖 𝓡)))
+    (cited 𝓤 H (Step 𝓤 H (𝓖 .A) (𝓜 .mem) (𝓡 .run)) 𝓜 𝓡 code.env #judge-step·step step-def.routine code.calls-judge-step·step (step-thm.met 𝓤 H 𝓜 𝓖 𝓡)))

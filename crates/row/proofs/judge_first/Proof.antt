@@ -51,14 +51,14 @@ use denote.Triple.Table.{entered, cited}
 use denote.Triple.Walked.{says, needs, Stays, stay-none, walkOf, goes-none, Walks, ends-at, walked, walk-meets}
 use denote.Exit.{yes}
 use Rattle.verdict.specs.declared.verdict.PairVerdict.{PairVerdict}
-use Rattle.judge.specs.declared.PairRead.{PairRead}
+use Rattle.judge_step.specs.declared.PairRead.{PairRead}
 use Rattle.verdict.specs.declared.verdict.Judged.{Judged}
 use Rattle.judge.specs.Row.{rowJudged, rowVerdicts}
 use Rattle.row.specs.declared.RowJudged.{RowJudged}
 use Rattle.row.specs.Judged.{judgedFirst}
 use Rattle.row.proofs.ArrayLaws.{Local, Behind, takes-apart, puts-together}
-use Rattle.judge.proofs.PairRead as P
-use Rattle.judge.proofs.PairRead.Laws as P′
+use Rattle.judge_step.proofs.PairRead as P
+use Rattle.judge_step.proofs.PairRead.Laws as P′
 use Rattle.verdict.proofs.verdict.PairVerdict as X
 use Rattle.verdict.proofs.verdict.PairVerdict.Laws as X′
 use Rattle.verdict.proofs.verdict.Judged as J

@@ -1,9 +1,9 @@
 -- `finish` meets its contract: the refusal, or the judgement from what the passes left.
 use borrow.Author.Tests.{eq-eqb, ne-eqb}
-use Rattle.judge.specs.Sweep.{finished}
+use Rattle.judge_step.specs.Step.{finished}
 use borrow.Author.Needs.{needs}
-use Rattle.judge.proofs.finish.Statement.{statement}
-use Rattle.judge.proofs.finish.Tie as tie
+use Rattle.judge_step.proofs.finish.Statement.{statement}
+use Rattle.judge_step.proofs.finish.Tie as tie
 
 returns : tie.Need-returns
 unfolding finished

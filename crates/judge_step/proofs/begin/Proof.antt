@@ -1,8 +1,8 @@
 -- `begin` meets its contract: the refusal, and how many pairs it leaves.
-use Rattle.judge.specs.Sweep.{begun}
+use Rattle.judge_step.specs.Step.{begun}
 use borrow.Author.Needs.{needs}
-use Rattle.judge.proofs.begin.Statement.{statement}
-use Rattle.judge.proofs.begin.Tie as tie
+use Rattle.judge_step.proofs.begin.Statement.{statement}
+use Rattle.judge_step.proofs.begin.Tie as tie
 
 refused-row-requires : tie.Need-refused-row-requires
 refused-row-requires c κs = search needs

@@ -1,9 +1,9 @@
 -- `step` meets its contract, by the pass.
 use borrow.Author.Tests.{eq-eqb, ne-eqb}
-use Rattle.judge.specs.Sweep.{stepped}
+use Rattle.judge_step.specs.Step.{stepped}
 use borrow.Author.Needs.{needs}
-use Rattle.judge.proofs.step.Statement.{statement}
-use Rattle.judge.proofs.step.Tie as tie
+use Rattle.judge_step.proofs.step.Statement.{statement}
+use Rattle.judge_step.proofs.step.Tie as tie
 
 pair-read-requires : tie.Need-pair-read-requires
 pair-read-requires c κs = search needs

@@ -1,7 +1,7 @@
 -- `admitted` meets its contract, by the test.
 use borrow.Author.Tests.{eq-eqb, ne-eqb}
-use Rattle.judge.proofs.admitted.Statement.{statement}
-use Rattle.judge.proofs.admitted.Tie as tie
+use Rattle.judge_step.proofs.admitted.Statement.{statement}
+use Rattle.judge_step.proofs.admitted.Tie as tie
 
 returns : tie.Need-returns
 returns c = search (eq-eqb, ne-eqb)

@@ -1,8 +1,8 @@
 -- `refused_row` meets its contract, by the tests in their order.
 use borrow.Author.Tests.{eq-eqb, ne-eqb}
-use Rattle.judge_frames.specs.Frames.{refusedRow}
-use Rattle.judge.proofs.refused_row.Statement.{statement}
-use Rattle.judge.proofs.refused_row.Tie as tie
+use Rattle.verdict.specs.Judge.{refusedRow}
+use Rattle.judge_step.proofs.refused_row.Statement.{statement}
+use Rattle.judge_step.proofs.refused_row.Tie as tie
 
 returns : tie.Need-returns
 unfolding refusedRow

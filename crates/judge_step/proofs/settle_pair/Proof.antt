@@ -1,8 +1,8 @@
 -- `settle_pair` meets its contract: the rules, the verdict by them, and the heal with it.
-use Rattle.judge.specs.Sweep.{settlePair}
+use Rattle.judge_step.specs.Step.{settlePair}
 use borrow.Author.Needs.{needs}
-use Rattle.judge.proofs.settle_pair.Statement.{statement}
-use Rattle.judge.proofs.settle_pair.Tie as tie
+use Rattle.judge_step.proofs.settle_pair.Statement.{statement}
+use Rattle.judge_step.proofs.settle_pair.Tie as tie
 
 store-rules-requires : tie.Need-store-rules-requires
 store-rules-requires c κs = search needs

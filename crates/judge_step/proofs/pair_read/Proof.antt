@@ -1,7 +1,7 @@
 -- `pair_read` meets its contract: both slots.
 use borrow.Author.Needs.{needs}
-use Rattle.judge.proofs.pair_read.Statement.{statement}
-use Rattle.judge.proofs.pair_read.Tie as tie
+use Rattle.judge_step.proofs.pair_read.Statement.{statement}
+use Rattle.judge_step.proofs.pair_read.Tie as tie
 
 part-read-requires : tie.Need-part-read-requires
 part-read-requires c κs = search needs

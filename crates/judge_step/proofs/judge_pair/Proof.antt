@@ -1,8 +1,8 @@
 -- `judge_pair` meets its contract: the verdict, the tally with it, and the volume record's verdict.
-use Rattle.judge.specs.Sweep.{judgePair}
+use Rattle.judge_step.specs.Step.{judgePair}
 use borrow.Author.Needs.{needs}
-use Rattle.judge.proofs.judge_pair.Statement.{statement}
-use Rattle.judge.proofs.judge_pair.Tie as tie
+use Rattle.judge_step.proofs.judge_pair.Statement.{statement}
+use Rattle.judge_step.proofs.judge_pair.Tie as tie
 
 pair-case-requires : tie.Need-pair-case-requires
 pair-case-requires c κs = search needs

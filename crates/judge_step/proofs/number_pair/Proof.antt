@@ -1,8 +1,8 @@
 -- `number_pair` meets its contract: the maxima alone change.
-use Rattle.judge.specs.Sweep.{numberPair}
+use Rattle.judge_step.specs.Step.{numberPair}
 use borrow.Author.Needs.{needs}
-use Rattle.judge.proofs.number_pair.Statement.{statement}
-use Rattle.judge.proofs.number_pair.Tie as tie
+use Rattle.judge_step.proofs.number_pair.Statement.{statement}
+use Rattle.judge_step.proofs.number_pair.Tie as tie
 
 note-pair-requires : tie.Need-note-pair-requires
 note-pair-requires c κs = search needs
