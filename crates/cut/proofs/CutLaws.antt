@@ -2,15 +2,17 @@
 -- is the only place where the number of bytes counts.
 use mathlib.Core.Path.{_≡_, refl, sym, ap, _∙_}
 use mathlib.Core.Logic.{_⊎_, inl, inr}
-use mathlib.Core.Bool.{Bool, true, false}
+use mathlib.Core.Bool.{Bool, true, false, cond}
 use mathlib.Core.List.{List, _++_}
 use Prim.Native.Nat.{ℕ, _+_, _≤_}
 use native.Mathlib.Omega.{arith}
+use borrow.Author.Tests.{eqb-true}
+use lib.Dec.{ltb, eqb}
 use lib.ListN.{length, take, drop, length-append, length-take, length-drop}
 use lib.Seq.{take-append-le, take-take, length-take-le}
-use Rattle.codec.specs.Bytes.{same}
+use Rattle.codec.specs.Bytes.{le16, le32, same}
 use Rattle.codec.proofs.RunLaws.{same-true}
-use Rattle.slot.specs.Read.{magic}
+use Rattle.slot.specs.Read.{magic, headerSum}
 use Rattle.cut.specs.Store.{Bytes}
 use Rattle.cut.specs.Cut.{cut, CutPoint, standsWhole, headerPasses, Accident}
 use Rattle.cut.proofs.ByteLaws.{append-bytes, take-bytes, drop-bytes}
@@ -84,6 +86,23 @@ pub cut-header : (k : ℕ) (new old payload : List ℕ) → length old ≡ lengt
     → (Accident (cut k new old) old new payload → ⊥) → Header (cut k new old) old new
 cut-header k new old payload sizes point stands none =
     header-of (cut k new old) old new payload none (old-or-magic k new old sizes point stands)
+
+-- A header that passes has the sum that it stores,
+passed-sum : (s : List ℕ) → headerPasses s ≡ true → headerSum s (le16 s 12) ≡ le32 s 8
+unfolding headerPasses
+passed-sum s = go (ltb (le16 s 12) 128) (ltb (length s) (le16 s 12))
+  where
+    go : (short past : Bool) → cond short false (cond past false (eqb (headerSum s (le16 s 12)) (le32 s 8))) ≡ true
+        → headerSum s (le16 s 12) ≡ le32 s 8
+    go true past is = false-true refl is
+    go false true is = false-true refl is
+    go false false is = eqb-true _ _ is
+
+-- so that there is no accident where the sum of a header other than the new one is not the one that it stores.
+pub failed-sum : (s old new payload : List ℕ) → (take 128 s ≡ take 128 new → ⊥) → (headerSum s (le16 s 12) ≡ le32 s 8 → ⊥)
+    → Accident s old new payload → ⊥
+failed-sum s old new payload not-new not-stored (Accident.header passes not-old other) = not-stored (passed-sum s passes)
+failed-sum s old new payload not-new not-stored (Accident.payload same-header other passes) = not-new same-header
 
 -- Under another header the new record does not stand whole.
 pub not-whole : (s new payload : List ℕ) → (take 128 s ≡ take 128 new → ⊥) → standsWhole s new payload ≡ false

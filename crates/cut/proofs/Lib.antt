@@ -9,4 +9,3 @@ pub mod CutLaws
 pub mod WriteLaws
 pub mod WrittenPair
 pub mod Theorem
-pub mod CutExamples

@@ -27,7 +27,7 @@ use Rattle.volume_tail.specs.Tail.{tailBytes}
 use Rattle.volume.specs.Volume.{volumeBytes}
 use Rattle.cut.specs.Store.{Volume, Page, accepts, cleanMark as recordMark, filled}
 use Rattle.cut.specs.Cut.{cut, left, withSlot, handed, standsWhole}
-use Rattle.cut.proofs.CutExamples.{volumeRecord, pageRecord, volumeFields, newerFields, secondFields, volumePair, firstPage, secondPage, pageWrite, volumeWrite, summedSlot, summed-is, none-refused, newer-sum, volume-sum, volume-handed, oldPage, newPage, blankBytes, markedBytes, old-page, new-page, new-volume, page-accepted, volume-accepted}
+use Rattle.cut_store.proofs.CutExamples.{volumeRecord, pageRecord, volumeFields, newerFields, secondFields, volumePair, firstPage, secondPage, pageWrite, volumeWrite, summedSlot, summed-is, none-refused, newer-sum, volume-sum, volume-handed, oldPage, newPage, blankBytes, markedBytes, old-page, new-page, new-volume, page-accepted, volume-accepted}
 use Rattle.cut_examples.proofs.SlotsRead.{Computed, PairRecord, more, none, readOnce, filledRow, pair-record, computed-row}
 
 -- ---- how a slot is read

@@ -23,7 +23,7 @@ use Rattle.judge_step.specs.declared.PairRead.{PairRead}
 use Rattle.verdict.specs.declared.verdict.Judged.{Judged}
 use Rattle.cut.specs.Store.{Decoder, Slot, Pair, accepts, report, filled, slotPart, pairPart, frames, slotRead}
 use Rattle.cut.specs.Cut.{Write, after, handed}
-use Rattle.cut.proofs.CutExamples.{rest}
+use Rattle.cut_store.proofs.CutExamples.{rest}
 
 -- ---- what is computed
 

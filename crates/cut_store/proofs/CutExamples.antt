@@ -11,7 +11,7 @@ use native.Mathlib.Omega.{arith}
 use borrow.Author.Tests.{leb-true, eqb-true, eq-eqb, not-true}
 use lib.Dec.{leb, eqb, lit≤, lit<}
 use lib.ListN.{length, take, replicate}
-use Rattle.codec.specs.Bytes.{le, le32, bytes, same}
+use Rattle.codec.specs.Bytes.{le, le16, le32, bytes, same}
 use Rattle.codec.specs.Crc32c.{crc32c, finalRemainder, remainder, digest, reversed}
 use Rattle.codec.proofs.RunLaws.{same-true}
 use Rattle.slot.specs.Status.{indexNumber, other}
@@ -35,12 +35,13 @@ use Rattle.volume_tail.specs.Tail.{tailBytes}
 use Rattle.volume.specs.Volume.{tailCheck, decodeVolume, volumeBytes}
 use Rattle.page.specs.Read.{decodePage}
 use Rattle.page_write.specs.Write.{headerBytes as pageHeaderBytes}
 use Rattle.cut.specs.Store.{Every, Bytes, Decoder, Volume, Page, accepts, cleanMark, Slot, Pair, slotAt, status, report, parts, storeMark, Typed, SoundSlot, Beside, SoundPair, Sound}
-use Rattle.cut.specs.Cut.{Write, store, size, old, new, cut, CutPoint, CorrectWrite, standsWhole, whole, headerPasses, payloadIn, Accident, handed, Survives}
+use Rattle.cut.specs.Cut.{Write, store, size, old, new, cut, CutPoint, CorrectWrite, standsWhole, whole, payloadIn, Accident, handed, Survives}
 use Rattle.cut.proofs.ByteLaws.{bytes-tested, append-bytes, zero-bytes, number-bytes, slot-bytes}
-use Rattle.cut.proofs.StatusLaws.{false-true, same-is}
+use Rattle.cut.proofs.StatusLaws.{false-true}
 use Rattle.cut.proofs.PairLaws.{valid-number, blank-number, last-is, sound-won}
+use Rattle.cut.proofs.CutLaws.{differ, failed-sum}
 use Rattle.cut.proofs.Theorem.{cut-theorem}
 
 -- ---- slots of 512 bytes
 
@@ -320,7 +321,7 @@ abbrev safe : List ℕ → List ℕ → List ℕ → List ℕ → Bool
 safe s before after payload =
     cond (same (take 128 s) (take 128 after))
     (cond (same (payloadIn s payload) payload) true (not (eqb (crc32c (payloadIn s payload)) (le32 s 28))))
-    (cond (same (take 128 s) (take 128 before)) true (not (headerPasses s)))
+    (cond (same (take 128 s) (take 128 before)) true (not (eqb (headerSum s (le16 s 12)) (le32 s 8))))
 
 safe-none : (s before after payload : List ℕ) → safe s before after payload ≡ true → Accident s before after payload → ⊥
 safe-none s before after payload =
@@ -328,7 +329,8 @@ safe-none s before after payload =
   where
     go : (x : Bool) → same (take 128 s) (take 128 after) ≡ x → (y : Bool) → same (payloadIn s payload) payload ≡ y
         → (z : Bool) → same (take 128 s) (take 128 before) ≡ z
-        → cond x (cond y true (not (eqb (crc32c (payloadIn s payload)) (le32 s 28)))) (cond z true (not (headerPasses s))) ≡ true
+        → cond x (cond y true (not (eqb (crc32c (payloadIn s payload)) (le32 s 28))))
+        (cond z true (not (eqb (headerSum s (le16 s 12)) (le32 s 8)))) ≡ true
         → Accident s before after payload → ⊥
     go true is-new y same-payload z is-old test (Accident.header passes not-old not-new) =
         not-new (same-true (take 128 s) (take 128 after) is-new)
@@ -337,9 +339,10 @@ safe-none s before after payload =
         false-true {A = ⊥} (not-true _ test) (eq-eqb _ _ passes)
     go false is-new y same-payload true is-old test (Accident.header passes not-old not-new) =
         not-old (same-true (take 128 s) (take 128 before) is-old)
-    go false is-new y same-payload false is-old test (Accident.header passes not-old not-new) = false-true {A = ⊥} (not-true _ test) passes
-    go false is-new y same-payload z is-old test (Accident.payload header other passes) =
-        false-true {A = ⊥} is-new (same-is (take 128 s) (take 128 after) header)
+    go false is-new y same-payload true is-old test (Accident.payload header other passes) = differ (take 128 s) (take 128 after) is-new header
+    go false is-new y same-payload false is-old test accident =
+        failed-sum s before after payload (differ (take 128 s) (take 128 after) is-new)
+        (λ stored. false-true {A = ⊥} (not-true _ test) (eq-eqb _ _ stored)) accident
 
 -- The tests of a cut: k is 0 or from 8 to the slot's size, and there is no accident.
 abbrev pointTest : ℕ → Bool
@@ -475,7 +478,7 @@ page-survived k tests = survived (pageWrite k) sound unmarked (page-correct k) r
 -- After 8 bytes the header is the old one; after 11 and 64 it is neither and fails; after 127 it is the new one, since its last byte is
 -- zero; after 133 the payload is neither and fails; after 134 it is the new one, since zeros follow.
 pub page-cuts : Every (λ (k : ℕ). Survives (pageWrite k) (replicate 12 0)) (0 ∷ 8 ∷ 11 ∷ 64 ∷ 127 ∷ 128 ∷ 133 ∷ 134 ∷ 512 ∷ [])
-unfolding cut headerPasses headerSum headerBytes frontBytes identityBytes historyBytes pageHeaderBytes bytes le crc32c finalRemainder remainder digest reversed
+unfolding cut headerSum headerBytes frontBytes identityBytes historyBytes pageHeaderBytes bytes le crc32c finalRemainder remainder digest reversed
 page-cuts =
     Every.more (page-survived 0 refl)
     (Every.more (page-survived 8 refl)
@@ -541,7 +544,7 @@ volume-survived k tests =
 
 -- After 8 and 11 bytes the header's length is still zero; after 128 the payload is what stood there before.
 pub volume-cuts : Every (λ (k : ℕ). Survives (volumeWrite k) (replicate 12 0)) (0 ∷ 8 ∷ 11 ∷ 64 ∷ 128 ∷ 191 ∷ 192 ∷ [])
-unfolding cut headerPasses headerSum headerBytes frontBytes identityBytes historyBytes volumeBytes baseBytes tailBytes bytes le crc32c finalRemainder remainder digest reversed
+unfolding cut headerSum headerBytes frontBytes identityBytes historyBytes volumeBytes baseBytes tailBytes bytes le crc32c finalRemainder remainder digest reversed
 volume-cuts =
     Every.more (volume-survived 0 refl)
     (Every.more (volume-survived 8 refl)
