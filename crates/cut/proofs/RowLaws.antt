@@ -1,10 +1,10 @@
 -- The fields of a frame that are not given are ignored: the row of pairs as read is judged as the row of parts with anything in them.
-use mathlib.Core.Path.{_≡_, refl, sym, ap, ap₂, fun-ext, _∙_}
+use mathlib.Core.Path.{_≡_, refl, ap, ap₂, fun-ext, _∙_}
 use mathlib.Core.Bool.{Bool, true, false, cond}
-use mathlib.Core.List.{List, [], _∷_, _++_}
+use mathlib.Core.List.{List, [], _∷_}
 use Prim.Native.Nat.{ℕ, zero, suc, _+_, _*_, _≤_, max}
 use lib.Dec.{eqb}
-use lib.ListN.{length, take, drop}
+use lib.ListN.{length}
 use Rattle.slot.specs.Status.{code, validInfo}
 use Rattle.slot.specs.Read.{headerFacts}
 use Rattle.slot.specs.declared.slot.SlotIndex.{SlotIndex}
@@ -91,42 +91,25 @@ case-read p = case-of-b (slotPart (p .a)) (slot-alike (p .b)) ∙ case-of-a (par
 
 -- ---- the row
 
--- The numbers of all slots, A before B.
-abbrev numbers : List SlotPart → List ℕ
-numbers [] = []
-numbers (s ∷ ss) = number (numbered s) ∷ numbers ss
+-- Two rows of slots, place by place.
+data AllAlike : List SlotPart → List SlotPart → Type 0 where
+  none : AllAlike [] []
+  more : {s t : SlotPart} {ss ts : List SlotPart} → Alike s t → AllAlike ss ts → AllAlike (s ∷ ss) (t ∷ ts)
 
-abbrev most : List ℕ → ℕ
-most [] = 0
-most (n ∷ ns) = max n (most ns)
-
-highest-is : (ss : List SlotPart) → highest ss ≡ most (numbers ss)
-highest-is [] = refl
-highest-is (s ∷ ss) = ap (max (number (numbered s))) (highest-is ss)
-
-numbers-append : (ss ts : List SlotPart) → numbers (ss ++ ts) ≡ numbers ss ++ numbers ts
-numbers-append [] ts = refl
-numbers-append (s ∷ ss) ts = ap (λ (ns : List ℕ). number (numbered s) ∷ ns) (numbers-append ss ts)
-
-numbers-take : (k : ℕ) (ss : List SlotPart) → numbers (take k ss) ≡ take k (numbers ss)
-numbers-take zero ss = refl
-numbers-take (suc k) [] = refl
-numbers-take (suc k) (s ∷ ss) = ap (λ (ns : List ℕ). number (numbered s) ∷ ns) (numbers-take k ss)
-
-numbers-drop : (k : ℕ) (ss : List SlotPart) → numbers (drop k ss) ≡ drop k (numbers ss)
-numbers-drop zero ss = refl
-numbers-drop (suc k) [] = refl
-numbers-drop (suc k) (s ∷ ss) = numbers-drop k ss
-
-numbers-read : (ps : List Pair) → numbers (slots (parts ps)) ≡ numbers (slots (rowRead (reads ps)))
+slots-alike : (ps : List Pair) → AllAlike (slots (parts ps)) (slots (rowRead (reads ps)))
 unfolding pairPart
-numbers-read [] = refl
-numbers-read (p ∷ ps) = simp (numbered-alike (slot-alike (p .a)), numbered-alike (slot-alike (p .b)), numbers-read ps)
+slots-alike [] = AllAlike.none
+slots-alike (p ∷ ps) = AllAlike.more (slot-alike (p .a)) (AllAlike.more (slot-alike (p .b)) (slots-alike ps))
 
-other-is : (k : ℕ) (ss : List SlotPart) → highestOther k ss ≡ most (take k (numbers ss) ++ drop (suc k) (numbers ss))
-other-is k ss =
-    highest-is (take k ss ++ drop (suc k) ss)
-    ∙ ap most (numbers-append (take k ss) (drop (suc k) ss) ∙ ap₂ (λ (front rest : List ℕ). front ++ rest) (numbers-take k ss) (numbers-drop (suc k) ss))
+highest-alike : {ss ts : List SlotPart} → AllAlike ss ts → highest ss ≡ highest ts
+highest-alike AllAlike.none = refl
+highest-alike (AllAlike.more s rest) = ap₂ (λ (n : MetaSeq) (m : ℕ). max (number n) m) (numbered-alike s) (highest-alike rest)
+
+other-alike : (k : ℕ) {ss ts : List SlotPart} → AllAlike ss ts → highestOther k ss ≡ highestOther k ts
+other-alike zero AllAlike.none = refl
+other-alike zero (AllAlike.more s rest) = highest-alike rest
+other-alike (suc k) AllAlike.none = refl
+other-alike (suc k) (AllAlike.more s rest) = ap₂ (λ (n : MetaSeq) (m : ℕ). max (number n) m) (numbered-alike s) (other-alike k rest)
 
 module _ (ps : List Pair) where
   abbrev written : List PairPart
@@ -138,15 +121,9 @@ module _ (ps : List Pair) where
   rule-read : qualifies (slots written) ≡ qualifies (slots read)
   rule-read = fun-ext (λ k. fun-ext (λ seq. by-number k seq))
     where
-      other-read : (k : ℕ) → highestOther k (slots written) ≡ highestOther k (slots read)
-      other-read k =
-          other-is k (slots written)
-          ∙ ap (λ (ns : List ℕ). most (take k ns ++ drop (suc k) ns)) (numbers-read ps)
-          ∙ sym (other-is k (slots read))
-
       by-number : (k : ℕ) (seq : MetaSeq) → qualifies (slots written) k seq ≡ qualifies (slots read) k seq
       by-number k MetaSeq.Nothing = refl
-      by-number k (MetaSeq.Number v) = ap (λ (n : ℕ). eqb v (n + 1)) (other-read k)
+      by-number k (MetaSeq.Number v) = ap (λ (n : ℕ). eqb v (n + 1)) (other-alike k (slots-alike ps))
 
 verdicts-read : (all some : List SlotPart) → qualifies all ≡ qualifies some → (i : ℕ) (ps : List Pair)
     → verdictsFrom all i (parts ps) ≡ verdictsFrom some i (rowRead (reads ps))
