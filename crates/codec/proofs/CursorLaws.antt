@@ -7,9 +7,9 @@ use Prim.Native.Nat.{ℕ, zero, suc, _+_, _-_, _*_, _/_, _%_, _^_, _≤_, _<_}
 use native.Mathlib.Nat.{zero-add, add-zero, add-assoc, suc-add, one-mul, mul-assoc, mul-comm, pow-suc, pow-succ', div-div-eq-div-mul, mod-eq-of-lt, div-lt-iff-lt-mul, zero-lt-suc, le-of-eq}
 use native.Mathlib.Numerals.{add-one}
 use native.Mathlib.Omega.{arith}
-use borrow.Author.Tests.{le-leb, lt-leb, leb-true, leb-false}
+use borrow.Author.Tests.{le-leb, lt-leb, leb-true, leb-false, ltb-true}
 use borrow.Rule.Slice.PartMut.{putMid, take-put}
-use lib.Dec.{leb, lit<}
+use lib.Dec.{leb, ltb, lit<}
 use lib.ListN.{length, getD, take, drop, replicate, length-append, length-take, length-drop, drop-of-length-le, List·getD-append}
 use lib.Seq.{drop-cons, take-add, drop-drop, take-at, drop-at, getD-append-add, getD-take, getD-drop, length-take-le, take-all}
 use Rattle.codec.specs.Bytes.{AllBytes, le, bytes, put, putWhole}
@@ -74,11 +74,45 @@ le-bytes (suc w) v rest small =
     ∙ le-bytes w (v / 256) rest (div-lt-iff-lt-mul (zero-lt-suc 255) .1 (subst (λ (bound : ℕ). v < bound) (pow-succ' 256 w ∙ mul-comm 256 (256 ^ w)) small)) in
     omega (arith, high)
 
+-- Parts and joins of bytes are bytes, and so are zeros and the bytes of a number.
 pub take-bytes : (n : ℕ) (s : List ℕ) → AllBytes s → AllBytes (take n s)
 take-bytes zero s small i = lit< tt
 take-bytes (suc n) [] small i = lit< tt
 take-bytes (suc n) (x ∷ s) small zero = small 0
 take-bytes (suc n) (x ∷ s) small (suc i) = take-bytes n s (λ k. small (suc k)) i
+
+pub drop-bytes : (n : ℕ) (s : List ℕ) → AllBytes s → AllBytes (drop n s)
+drop-bytes n s small i = rw getD-drop (small (n + i))
+
+pub append-bytes : (s t : List ℕ) → AllBytes s → AllBytes t → AllBytes (s ++ t)
+append-bytes [] t small rest i = rest i
+append-bytes (x ∷ s) t small rest zero = small 0
+append-bytes (x ∷ s) t small rest (suc i) = append-bytes s t (λ k. small (suc k)) rest i
+
+pub zero-bytes : (n : ℕ) → AllBytes (replicate n 0)
+zero-bytes zero i = lit< tt
+zero-bytes (suc n) zero = lit< tt
+zero-bytes (suc n) (suc i) = zero-bytes n i
+
+pub number-bytes : (w v : ℕ) → AllBytes (bytes w v)
+unfolding bytes
+number-bytes zero v i = lit< tt
+number-bytes (suc w) v zero = omega arith
+number-bytes (suc w) v (suc i) = number-bytes w (v / 256) i
+
+-- The same as a test, for lists that are written out.
+abbrev pub allBytes : List ℕ → Bool
+allBytes [] = true
+allBytes (x ∷ s) = cond (ltb x 256) (allBytes s) false
+
+pub bytes-tested : (s : List ℕ) → allBytes s ≡ true → AllBytes s
+bytes-tested [] is = λ i. lit< tt
+bytes-tested (x ∷ s) is = go (ltb x 256) refl is (bytes-tested s)
+  where
+    go : (test : Bool) → ltb x 256 ≡ test → cond test (allBytes s) false ≡ true → (allBytes s ≡ true → AllBytes s) → AllBytes (x ∷ s)
+    go true small is rest zero = ltb-true x 256 small
+    go true small is rest (suc i) = rest is i
+    go false small is rest i = let never : _≡_ {A = ℕ} 0 1 = cc in absurd (omega arith)
 
 -- The lowest byte of a number, and what stands above it.
 low-byte : (a b : ℕ) → a < 256 → ((a + 256 * b) % 256 ≡ a) × ((a + 256 * b) / 256 ≡ b)

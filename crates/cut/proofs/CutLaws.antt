@@ -10,12 +10,11 @@ use borrow.Author.Tests.{eqb-true}
 use lib.Dec.{ltb, eqb}
 use lib.ListN.{length, take, drop, length-append, length-take, length-drop}
 use lib.Seq.{take-append-le, take-take, length-take-le}
-use Rattle.codec.specs.Bytes.{le16, le32, same}
+use Rattle.codec.specs.Bytes.{AllBytes, le16, le32, same}
+use Rattle.codec.proofs.CursorLaws.{take-bytes, drop-bytes, append-bytes}
 use Rattle.codec.proofs.RunLaws.{same-true}
 use Rattle.slot.specs.Read.{magic, headerSum}
-use Rattle.cut.specs.Store.{Bytes}
 use Rattle.cut.specs.Cut.{cut, CutPoint, standsWhole, headerPasses, Accident}
-use Rattle.cut.proofs.ByteLaws.{append-bytes, take-bytes, drop-bytes}
 use Rattle.cut.proofs.StatusLaws.{false-true, same-is}
 
 pub not-same : (s t : List ℕ) → (s ≡ t → ⊥) → same s t ≡ false
@@ -30,9 +29,9 @@ differ s t not-equal is = false-true {A = ⊥} not-equal (same-is s t is)
 
 -- ---- the cut's bytes
 
-pub cut-bytes : (k : ℕ) {new old : List ℕ} → Bytes new → Bytes old → Bytes (cut k new old)
+pub cut-bytes : (k : ℕ) (new old : List ℕ) → AllBytes new → AllBytes old → AllBytes (cut k new old)
 unfolding cut
-cut-bytes k new old = append-bytes (take-bytes k new) (drop-bytes k old)
+cut-bytes k new old new-all old-all = append-bytes (take k new) (drop k old) (take-bytes k new new-all) (drop-bytes k old old-all)
 
 module _ (k : ℕ) (new old : List ℕ) (sizes : length old ≡ length new) (point : CutPoint k (length new)) where
   within : k ≤ length new

@@ -7,7 +7,8 @@ use Prim.Native.Nat.{ℕ, suc, _*_, _≤_, _<_}
 use native.Mathlib.Omega.{arith}
 use borrow.Author.Tests.{eq-eqb, ne-eqb}
 use lib.ListN.{length, take}
-use Rattle.codec.specs.Bytes.{le32, same, allZero}
+use Rattle.codec.specs.Bytes.{AllBytes, le32, same, allZero}
+use Rattle.codec.proofs.CursorLaws.{le-lt}
 use Rattle.slot.specs.Status.{code, validInfo}
 use Rattle.slot.specs.Read.{magic, header, info, lengthOk, parseHeader, payloadOk, status as statusBy, validate, facts, headerFacts}
 use Rattle.slot.specs.declared.slot.Expect.{Expect}
@@ -24,8 +25,7 @@ use Rattle.verdict.specs.Judge.{refusedRow, verdicts, judgeRow}
 use Rattle.judge_frames.specs.Frames.{verdictWidth, judged, judgedBytes, markOf}
 use Rattle.verdict.specs.declared.verdict.Judged.{Judged}
 use Rattle.judge_frames.proofs.FilledLaws.{Filled, AllFilled, filled-judged, filled-bytes}
-use Rattle.cut.specs.Store.{Every, Bytes, Slot, Pair, status, numbersGiven, checksumGiven, filled, slotPart, pairPart, parts, frames, Typed}
-use Rattle.cut.proofs.ByteLaws.{le-fits}
+use Rattle.cut.specs.Store.{Every, Slot, Pair, status, numbersGiven, checksumGiven, filled, slotPart, pairPart, parts, frames, Typed}
 use Rattle.cut.proofs.StatusLaws.{Failure, Passed, parse-passed, parse-failed, validate-cases}
 
 -- With zeros in the fields that are not given, a part is what `SlotPart::new` fills.
@@ -52,9 +52,9 @@ filled-zeros st f = by-info (code st) f (validInfo st)
 
 -- ---- what is read from bytes fits
 
-module _ (s : List ℕ) (e : Expect) (all : Bytes s) where
+module _ (s : List ℕ) (e : Expect) (all : AllBytes s) where
   header-fits : InfoFits (info (header s))
-  header-fits = record { generation = le-fits 8 all 56; number = le-fits 8 all 96; own = le-fits 4 all 8; prev = le-fits 4 all 80 }
+  header-fits = record { generation = le-lt 8 s 56 all; number = le-lt 8 s 96 all; own = le-lt 4 s 8 all; prev = le-lt 4 s 80 all }
 
   passed-fits : (i : SlotInfo) (crc : ℕ) → parseHeader s e ≡ Parsed.Passed i crc → InfoFits i
   passed-fits i crc parse = rw (parse-passed s e i crc parse .info-is) header-fits
@@ -82,10 +82,10 @@ module _ (s : List ℕ) (e : Expect) (all : Bytes s) where
   facts-fit = go (lengthOk (length s) (e .«log2_slot_size»)) (allZero (take 128 s)) (same (take 8 s) magic)
     where
       by-header : (answer : Parsed) → parseHeader s e ≡ answer → FactsFit (facts (le32 s 8) answer)
-      by-header (Parsed.Failed f) parse = FactsFit.stored (le-fits 4 all 8)
+      by-header (Parsed.Failed f) parse = FactsFit.stored (le-lt 4 s 8 all)
       by-header (Parsed.Passed i crc) parse =
           let fits = passed-fits i crc parse in
-          FactsFit.numbered (le-fits 4 all 8) (fits .generation) (fits .number) (fits .prev)
+          FactsFit.numbered (le-lt 4 s 8 all) (fits .generation) (fits .number) (fits .prev)
 
       go : (long zeros stands : Bool)
           → FactsFit

@@ -7,6 +7,7 @@ use mathlib.Core.List.{List, [], _∷_, _++_}
 use Prim.Native.Nat.{ℕ, suc, _+_, _*_, _≤_}
 use native.Mathlib.Omega.{arith}
 use lib.ListN.{length, length-append}
+use Rattle.codec.specs.Bytes.{AllBytes}
 use Rattle.slot.specs.Status.{other}
 use Rattle.slot.specs.declared.slot.SlotIndex.{SlotIndex}
 use Rattle.frame.specs.declared.frame.SlotPart.{SlotPart}
@@ -19,7 +20,7 @@ use Rattle.verdict.specs.declared.verdict.SlotVerdict.{SlotVerdict}
 use Rattle.verdict.specs.declared.verdict.PairVerdict.{PairVerdict}
 use Rattle.verdict.specs.declared.verdict.Heal.{Heal}
 use Rattle.judge_frames.specs.Frames.{verdictWidth}
-use Rattle.cut.specs.Store.{Every, Bytes, Slot, Pair, pairPart, parts, lastRecord, lastRecords, Typed, SoundPair, Sound}
+use Rattle.cut.specs.Store.{Every, Slot, Pair, pairPart, parts, lastRecord, lastRecords, Typed, SoundPair, Sound}
 use Rattle.cut.specs.Cut.{Write, store, size, old, new, left, withBytes, withSlot, after, CutPoint, CorrectWrite, whole, Accident, isEmpty, handed, ReadBack, AllReadBack, Survives, CutTheorem}
 use Rattle.cut.proofs.StatusLaws.{false-true}
 use Rattle.cut.proofs.JudgeLaws.{settledVerdict, Settled, Explained, explained-standing, Healed, row-confirmed, row-verdicts, row-writable, row-heal}
@@ -100,7 +101,7 @@ row-typed : {before : List Pair} → Every SoundPair before → {ps : List Pair}
 row-typed Every.none typed = typed
 row-typed (Every.more sound rest) typed = Every.more (sound-typed sound) (row-typed rest typed)
 
-bytes-typed : (s : Slot) (bytes : List ℕ) → Typed s → Bytes bytes → Typed (withBytes bytes s)
+bytes-typed : (s : Slot) (bytes : List ℕ) → Typed s → AllBytes bytes → Typed (withBytes bytes s)
 bytes-typed s bytes typed all =
     record {
       bytes = all;
@@ -114,7 +115,7 @@ bytes-typed s bytes typed all =
       prev = typed .prev;
     }
 
-written-typed : (index : SlotIndex) (bytes : List ℕ) {p : Pair} → PairTyped p → Bytes bytes → PairTyped (withSlot index bytes p)
+written-typed : (index : SlotIndex) (bytes : List ℕ) {p : Pair} → PairTyped p → AllBytes bytes → PairTyped (withSlot index bytes p)
 written-typed SlotIndex.A bytes {p} typed all = record { a = bytes-typed (p .a) bytes (typed .a) all; b = typed .b }
 written-typed SlotIndex.B bytes {p} typed all = record { a = typed .a; b = bytes-typed (p .b) bytes (typed .b) all }
 
@@ -180,8 +181,8 @@ module _ (w : Write) (sound-before : Every SoundPair (w .before)) (sound : Sound
   left-size : length (left w) ≡ size w
   left-size = length-cut (w .k) (new w) (old w) sizes point-new ∙ new-size w sound correct
 
-  left-bytes : Bytes (left w)
-  left-bytes = cut-bytes (w .k) (new-bytes w sound correct) (sound .slots (w .index) .typed .bytes)
+  left-bytes : AllBytes (left w)
+  left-bytes = cut-bytes (w .k) (new w) (old w) (new-bytes w sound correct) (sound .slots (w .index) .typed .bytes)
 
   left-header : Header (left w) (old w) (new w)
   left-header = cut-header (w .k) (new w) (old w) (w .payload) sizes point-new (new-magic w sound correct) none

@@ -9,9 +9,10 @@ use borrow.Author.Tests.{eq-eqb, ne-eqb, lt-ltb, le-ltb}
 use lib.ListN.{length, take, drop}
 use lib.Pow.{pow-mono}
 use lib.Seq.{take-at, drop-at}
-use Rattle.codec.specs.Bytes.{le32}
+use Rattle.codec.specs.Bytes.{AllBytes, le32}
 use Rattle.codec.specs.Crc32c.{crc32c}
 use Rattle.codec.specs.Outcome.{given}
+use Rattle.codec.proofs.CursorLaws.{le-lt}
 use Rattle.slot.specs.Status.{other}
 use Rattle.slot.specs.Read.{magic, lengthOk, numberOk, payload as payloadOf}
 use Rattle.slot.specs.Write.{encode, headerCrc, writtenHeader, slotBytes, encodeRefusal}
@@ -25,9 +26,9 @@ use Rattle.slot.proofs.WriteLaws.{length-header}
 use Rattle.encode.proofs.EncodeLaws.{Fits, Proper, expectOf, slot-parts, length-slot, magic-read}
 use Rattle.encode.proofs.RoundTrip.{written}
 use Rattle.pair.specs.declared.pair.WinnerInfo.{WinnerInfo}
-use Rattle.cut.specs.Store.{Bytes, Pair, accepts, slotAt, status, lastRecord, SoundSlot, Beside, SoundPair}
+use Rattle.cut.specs.Store.{Pair, accepts, slotAt, status, lastRecord, SoundSlot, Beside, SoundPair}
 use Rattle.cut.specs.Cut.{Write, size, expect, old, new, CorrectWrite}
-use Rattle.cut.proofs.ByteLaws.{le-fits, slot-bytes}
+use Rattle.cut.proofs.ByteLaws.{slot-bytes}
 use Rattle.cut.proofs.StatusLaws.{blank-is, valid-is}
 use Rattle.cut.proofs.PairLaws.{last-is, sound-won}
 
@@ -128,7 +129,7 @@ module _ (w : Write) (sound : SoundPair (w .pair)) (correct : CorrectWrite w) wh
       let winner-slot = slotAt (other (w .index)) p in
       let passed = valid-is (winner-slot .bytes) (winner-slot .expect) i winner-valid .passed in
       let own : i .«header_crc32c» ≡ le32 (winner-slot .bytes) 8 = ap (λ (j : SlotInfo). j .«header_crc32c») (passed .info-is) in
-      let below : le32 (winner-slot .bytes) 8 < 2 ^ 32 = le-fits 4 (sound .slots (other (w .index)) .typed .bytes) 8 in
+      let below : le32 (winner-slot .bytes) 8 < 2 ^ 32 = le-lt 4 (winner-slot .bytes) 8 (sound .slots (other (w .index)) .typed .bytes) in
       omega arith
 
   pub fields-fit : Fits (w .fields)
@@ -185,8 +186,8 @@ module _ (w : Write) (sound : SoundPair (w .pair)) (correct : CorrectWrite w) wh
   pub new-size : length (new w) ≡ size w
   new-size = ap length new-is ∙ length-slot f (w .payload) (fields-fit .volume) (correct .fits)
 
-  pub new-bytes : Bytes (new w)
-  new-bytes = subst Bytes (sym new-is) (slot-bytes f (w .payload) (subst Bytes (sym (correct .volume)) (slot-sound .typed .volume-bytes)) (correct .bytes))
+  pub new-bytes : AllBytes (new w)
+  new-bytes = subst AllBytes (sym new-is) (slot-bytes f (w .payload) (subst AllBytes (sym (correct .volume)) (slot-sound .typed .volume-bytes)) (correct .bytes))
 
   header-size : length (writtenHeader f (w .payload)) ≡ 128
   unfolding writtenHeader

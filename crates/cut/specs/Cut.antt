@@ -11,7 +11,7 @@ use mathlib.Core.List.{List, [], _∷_, _++_}
 use Prim.Native.Nat.{ℕ, _+_, _*_, _^_, _≤_, _<_}
 use lib.Dec.{ltb, eqb}
 use lib.ListN.{length, take, drop}
-use Rattle.codec.specs.Bytes.{le16, le32, same}
+use Rattle.codec.specs.Bytes.{AllBytes, le16, le32, same}
 use Rattle.codec.specs.Crc32c.{crc32c}
 use Rattle.slot.specs.Status.{other}
 use Rattle.slot.specs.Read.{headerSum}
@@ -33,7 +33,7 @@ use Rattle.verdict.specs.declared.verdict.Judgement.{Judgement}
 use Rattle.judge_frames.specs.Frames.{verdictWidth, judged, judgedBytes, markOf}
 use Rattle.judge.specs.Row.{rowJudged, rowVerdicts}
 use Rattle.verdict.specs.declared.verdict.Judged.{Judged}
-use Rattle.cut.specs.Store.{Every, Bytes, Slot, Pair, accepts, cleanMark, slotAt, report, parts, frames, reads, lastRecord, lastRecords, storeMark, Sound}
+use Rattle.cut.specs.Store.{Every, Slot, Pair, accepts, cleanMark, slotAt, report, parts, frames, reads, lastRecord, lastRecords, storeMark, Sound}
 
 -- ---- the write and the cut
 
@@ -106,7 +106,7 @@ pub record CorrectWrite (w : Write) : Type 0 where
   pub number-fits : w .fields .«meta_seq» < 2 ^ 64
   pub owner : w .fields .«owner_generation» < 2 ^ 64
   pub compat : w .fields .«compat_flags» < 2 ^ 32
-  pub bytes : Bytes (w .payload)
+  pub bytes : AllBytes (w .payload)
   pub accepted : accepts (w .pair .decoder) (w .payload) ≡ true
   pub fits : 128 + length (w .payload) ≤ size w
   pub room : length (w .buffer) ≡ size w

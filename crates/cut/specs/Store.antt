@@ -5,6 +5,7 @@ use mathlib.Core.List.{List, [], _∷_}
 use Prim.Native.Nat.{ℕ, _+_, _^_, _<_}
 use lib.Dec.{leb, ltb, eqb}
 use lib.ListN.{length}
+use Rattle.codec.specs.Bytes.{AllBytes}
 use Rattle.codec.specs.Outcome.{Outcome, given, refusal, isGiven}
 use Rattle.slot.specs.Status.{other, validInfo}
 use Rattle.slot.specs.Read.{payload, validate, headerFacts}
@@ -30,10 +31,6 @@ use Rattle.page.specs.Read.{decodePage}
 pub data Every {T : Type 0} (P : T → Type 0) : List T → Type 0 where
   none : Every P []
   more : {x : T} {xs : List T} → P x → Every P xs → Every P (x ∷ xs)
-
--- Every element is a byte.
-abbrev pub Bytes : List ℕ → Type 0
-Bytes s = Every (λ (b : ℕ). b < 256) s
 
 -- ---- the decoder of a pair
 
@@ -147,9 +144,9 @@ storeMark (p ∷ ps) = cleanMark (lastRecord p)
 
 -- What the types say of a slot's bytes, of its identity and of the fields of a frame.
 pub record Typed (s : Slot) : Type 0 where
-  pub bytes : Bytes (s .bytes)
+  pub bytes : AllBytes (s .bytes)
   pub volume : length (s .expect .«volume_uuid») ≡ 16
-  pub volume-bytes : Bytes (s .expect .«volume_uuid»)
+  pub volume-bytes : AllBytes (s .expect .«volume_uuid»)
   pub object : s .expect .«object_id» < 2 ^ 64
   pub offset : s .expect .«slot_offset» < 2 ^ 64
   pub generation : s .rest .generation < 2 ^ 64

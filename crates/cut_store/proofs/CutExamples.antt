@@ -11,8 +11,9 @@ use native.Mathlib.Omega.{arith}
 use borrow.Author.Tests.{leb-true, eqb-true, eq-eqb, not-true}
 use lib.Dec.{leb, eqb, lit≤, lit<}
 use lib.ListN.{length, take, replicate}
-use Rattle.codec.specs.Bytes.{le, le16, le32, bytes, same}
+use Rattle.codec.specs.Bytes.{AllBytes, le, le16, le32, bytes, same}
 use Rattle.codec.specs.Crc32c.{crc32c, finalRemainder, remainder, digest, reversed}
+use Rattle.codec.proofs.CursorLaws.{append-bytes, zero-bytes, number-bytes, bytes-tested}
 use Rattle.codec.proofs.RunLaws.{same-true}
 use Rattle.slot.specs.Status.{indexNumber, other}
 use Rattle.slot.specs.Read.{headerSum, lengthOk, numberOk, payload as payloadOf, validate}
@@ -35,9 +36,9 @@ use Rattle.volume_tail.specs.Tail.{tailBytes}
 use Rattle.volume.specs.Volume.{tailCheck, decodeVolume, volumeBytes}
 use Rattle.page.specs.Read.{decodePage}
 use Rattle.page_write.specs.Write.{headerBytes as pageHeaderBytes}
-use Rattle.cut.specs.Store.{Every, Bytes, Decoder, Volume, Page, accepts, cleanMark, Slot, Pair, slotAt, status, report, parts, storeMark, Typed, SoundSlot, Beside, SoundPair, Sound}
+use Rattle.cut.specs.Store.{Every, Decoder, Volume, Page, accepts, cleanMark, Slot, Pair, slotAt, status, report, parts, storeMark, Typed, SoundSlot, Beside, SoundPair, Sound}
 use Rattle.cut.specs.Cut.{Write, store, size, old, new, cut, CutPoint, CorrectWrite, standsWhole, whole, payloadIn, Accident, handed, Survives}
-use Rattle.cut.proofs.ByteLaws.{bytes-tested, append-bytes, zero-bytes, number-bytes, slot-bytes}
+use Rattle.cut.proofs.ByteLaws.{withNumbers, numbers-bytes, slot-bytes}
 use Rattle.cut.proofs.StatusLaws.{false-true}
 use Rattle.cut.proofs.PairLaws.{valid-number, blank-number, last-is, sound-won}
 use Rattle.cut.proofs.CutLaws.{differ, failed-sum}
@@ -89,7 +90,7 @@ module _ (object : ℕ) (index : SlotIndex) (generation prev number : ℕ) (obje
   abbrev f : SlotFields
   f = fields object index generation prev number
 
-  typed-with : (bytes : List ℕ) → Bytes bytes → Typed (record { bytes = bytes; expect = expectOf f true; rest = rest })
+  typed-with : (bytes : List ℕ) → AllBytes bytes → Typed (record { bytes = bytes; expect = expectOf f true; rest = rest })
   typed-with bytes all =
       record {
         bytes = all;
@@ -119,7 +120,7 @@ module _ (object : ℕ) (index : SlotIndex) (generation prev number : ℕ) (obje
           compat = lit< tt;
         }
 
-    module _ (payload : List ℕ) (all : Bytes payload) (none : encodeRefusal f payload 512 ≡ 0) (number-ok : numberOk 2 true number ≡ true) where
+    module _ (payload : List ℕ) (all : AllBytes payload) (none : encodeRefusal f payload 512 ≡ 0) (number-ok : numberOk 2 true number ≡ true) where
       written-known : (decoder : Decoder) → accepts decoder payload ≡ true → Known f payload decoder
       written-known decoder takes =
           record {
@@ -127,7 +128,7 @@ module _ (object : ℕ) (index : SlotIndex) (generation prev number : ℕ) (obje
                 record {
                   typed =
                       typed-with (encodedBytes f payload (replicate 512 0))
-                      (subst Bytes (sym (written f payload (replicate 512 0) none fields-fit true number-ok))
+                      (subst AllBytes (sym (written f payload (replicate 512 0) none fields-fit true number-ok))
                       (slot-bytes f payload (bytes-tested (replicate 16 7) refl) all));
                   format = refl;
                   numbered = refl;
@@ -140,7 +141,9 @@ module _ (object : ℕ) (index : SlotIndex) (generation prev number : ℕ) (obje
 blank-sound : (object : ℕ) (index : SlotIndex) → object ≤ 2 → SoundSlot (blankSlot object index)
 blank-sound object index small =
     record {
-      typed = typed-with object index 0 0 0 small (replicate 128 0 ++ replicate 384 9) (append-bytes (zero-bytes 128) (bytes-tested (replicate 384 9) refl));
+      typed =
+          typed-with object index 0 0 0 small (replicate 128 0 ++ replicate 384 9)
+          (append-bytes (replicate 128 0) (replicate 384 9) (zero-bytes 128) (bytes-tested (replicate 384 9) refl));
       format = refl;
       numbered = refl;
     }
@@ -176,7 +179,7 @@ volumeRecord mark =
 abbrev pub pageRecord : ℕ → ℕ → List ℕ
 pageRecord index next = pageHeaderBytes (record { «page_index» = index; «next_seq» = next; count = 0 })
 
-volume-bytes : Bytes (volumeRecord false) × Bytes (volumeRecord true)
+volume-bytes : AllBytes (volumeRecord false) × AllBytes (volumeRecord true)
 unfolding volumeBytes baseBytes tailBytes bytes
 volume-bytes = (bytes-tested (volumeRecord false) refl, bytes-tested (volumeRecord true) refl)
 
@@ -185,9 +188,11 @@ pub volume-accepted : (accepts Volume (volumeRecord false) ≡ true) × (cleanMa
 unfolding volumeBytes baseBytes tailBytes bytes decodeVolume decodeBase baseCheck tailCheck entriesPerPage blockSize clamp le
 volume-accepted = (refl, refl, refl, refl)
 
-page-bytes : (index next : ℕ) → Bytes (pageRecord index next)
+page-bytes : (index next : ℕ) → AllBytes (pageRecord index next)
 unfolding pageHeaderBytes
-page-bytes index next = append-bytes (append-bytes (append-bytes (number-bytes 4 index) (number-bytes 4 next)) (number-bytes 2 0)) (zero-bytes 14)
+page-bytes index next =
+    let numbers : List (ℕ × ℕ) = (4, next) ∷ (2, 0) ∷ [] in
+    append-bytes (withNumbers (bytes 4 index) numbers) (replicate 14 0) (numbers-bytes (bytes 4 index) numbers (number-bytes 4 index)) (zero-bytes 14)
 
 pub page-accepted : (accepts (Page 0 41) (pageRecord 0 1) ≡ true) × (accepts (Page 0 41) (pageRecord 0 2) ≡ true)
     × (accepts (Page 0 41) (pageRecord 0 0x304) ≡ true) × (accepts (Page 1 41) (pageRecord 1 0) ≡ true)
@@ -393,7 +398,7 @@ module _ (before : List Pair) (p : Pair) (behind : List Pair) (all : before ++ p
     (asked : expectOf f true ≡ slotAt (f .«slot_index») p .expect) where
   write-correct : (i : SlotInfo) → winnerInfo (report p) ≡ WinnerInfo.Won (other (f .«slot_index»)) i
       → f .generation ≡ i .generation + 1 → f .«prev_header_crc32c» ≡ i .«header_crc32c»
-      → (payload : List ℕ) → Bytes payload → accepts (p .decoder) payload ≡ true → 128 + length payload ≤ 512
+      → (payload : List ℕ) → AllBytes payload → accepts (p .decoder) payload ≡ true → 128 + length payload ≤ 512
       → (k : ℕ) → CorrectWrite (writeTo before p behind f payload k)
   write-correct i won generation prev payload payload-bytes accepted room k =
       record {
