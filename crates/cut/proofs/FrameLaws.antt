@@ -17,6 +17,7 @@ use Rattle.slot.specs.declared.slot.SlotStatus.{SlotStatus}
 use Rattle.slot.specs.declared.slot.ValidInfo.{ValidInfo}
 use Rattle.slot.specs.declared.slot.HeaderFacts.{HeaderFacts}
 use Rattle.slot.specs.declared.slot.Parsed.{Parsed}
+use Rattle.slot.proofs.StatusLaws.{Failure, parse-failed}
 use Rattle.frame.specs.Frame.{partBy, partOf}
 use Rattle.frame.specs.declared.frame.SlotPart.{SlotPart}
 use Rattle.frame.proofs.PartLaws.{InfoFits, ValidFits, FactsFit, part-range, part-fits}
@@ -26,7 +27,7 @@ use Rattle.judge_frames.specs.Frames.{verdictWidth, judged, judgedBytes, markOf
 use Rattle.verdict.specs.declared.verdict.Judged.{Judged}
 use Rattle.judge_frames.proofs.FilledLaws.{Filled, AllFilled, filled-judged, filled-bytes}
 use Rattle.cut.specs.Store.{Every, Slot, Pair, status, numbersGiven, checksumGiven, filled, slotPart, pairPart, parts, frames, Typed}
-use Rattle.cut.proofs.StatusLaws.{Failure, Passed, parse-passed, parse-failed, validate-cases}
+use Rattle.cut.proofs.StatusLaws.{Passed, parse-passed, validate-cases}
 
 -- With zeros in the fields that are not given, a part is what `SlotPart::new` fills.
 abbrev zeroPart : SlotPart
@@ -71,7 +72,7 @@ module _ (s : List ℕ) (e : Expect) (all : AllBytes s) where
       by-payload false i fits = ValidFits.nothing
 
       by-failure : (f : SlotStatus) → Failure f → ValidFits (validInfo f)
-      by-failure f (Failure.failure not-blank not-valid) = rw not-valid ValidFits.nothing
+      by-failure f (Failure.failure from-1 not-blank not-valid) = rw not-valid ValidFits.nothing
 
       by-header : (answer : Parsed) → parseHeader s e ≡ answer → ValidFits (validInfo (statusBy s answer))
       by-header (Parsed.Failed f) parse = by-failure f (parse-failed s e f parse)

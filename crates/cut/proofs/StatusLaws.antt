@@ -3,14 +3,14 @@
 use mathlib.Core.Path.{_≡_, refl, sym, ap, _∙_}
 use mathlib.Core.Bool.{Bool, true, false, cond, not}
 use mathlib.Core.List.{List, [], _∷_}
-use Prim.Native.Nat.{ℕ, _+_, _≤_}
+use Prim.Native.Nat.{ℕ, _≤_}
 use native.Mathlib.Omega.{arith}
 use borrow.Author.Tests.{eq-eqb, le-leb, eqb-true, not-false}
 use lib.Dec.{leb, ltb, eqb}
 use lib.ListN.{length, take, drop}
 use Rattle.codec.specs.Bytes.{le16, le32, same, allZero}
 use Rattle.codec.proofs.RunLaws.{same-refl, same-true}
-use Rattle.slot.specs.Status.{indexNumber, code, validInfo}
+use Rattle.slot.specs.Status.{code, validInfo}
 use Rattle.slot.specs.Read.{magic, header, headerSum, lengthOk, integrity, numberOk, shape, place, andThen, check, info, parsed, parseHeader, payloadOk, status, validate, facts, headerFacts}
 use Rattle.slot.specs.declared.slot.Expect.{Expect}
 use Rattle.slot.specs.declared.slot.SlotInfo.{SlotInfo}
@@ -21,6 +21,7 @@ use Rattle.slot.specs.declared.slot.RawHeader.{RawHeader}
 use Rattle.slot.specs.declared.slot.Check.{Check}
 use Rattle.slot.specs.declared.slot.Parsed.{Parsed}
 use Rattle.slot.proofs.ReadLaws.{length-room}
+use Rattle.slot.proofs.StatusLaws.{Failure, parse-failed}
 use Rattle.cut.specs.Cut.{headerPasses}
 
 pub false-true : {A : Type 0} {test : Bool} → test ≡ false → test ≡ true → A
@@ -95,74 +96,6 @@ parse-passed s e i crc is = go (leb 128 (length s)) is
     go true is = by-check (check s (header s) e) refl is
     go false is = let never : _≡_ {A = ℕ} 0 1 = cc in absurd (omega arith)
 
--- ---- a header's checks that fail: with a status that is neither Blank nor Valid
-
-pub data Failure : SlotStatus → Type 0 where
-  failure : {status : SlotStatus} → eqb (code status) 2 ≡ false → validInfo status ≡ ValidInfo.Nothing → Failure status
-
-data Checked : Check → Type 0 where
-  pass : Checked Check.Pass
-  fail : {status : SlotStatus} → Failure status → Checked (Check.Fail status)
-
-row-checked : (fails : Bool) (status : SlotStatus) (rest : Check) → Failure status → Checked rest → Checked (cond fails (Check.Fail status) rest)
-row-checked true status rest known others = fail known
-row-checked false status rest known others = others
-
-then-checked : (first next : Check) → Checked first → Checked next → Checked (andThen first next)
-then-checked first next pass rest = rest
-then-checked first next (fail known) rest = fail known
-
-integrity-checked : (s : List ℕ) (h : RawHeader) (format : ℕ) → Checked (integrity s h format)
-unfolding integrity
-integrity-checked s h format =
-    row-checked (not (same (take 8 s) magic)) SlotStatus.BadMagic _ (failure refl refl)
-    (row-checked (ltb (h .«header_len») 128) SlotStatus.BadHeaderCrc _ (failure refl refl)
-    (row-checked (ltb (length s) (h .«header_len»)) SlotStatus.BadHeaderCrc _ (failure refl refl)
-    (row-checked (not (eqb (headerSum s (h .«header_len»)) (h .«header_crc32c»))) SlotStatus.BadHeaderCrc _ (failure refl refl)
-    (row-checked (not (eqb (h .«format_major») format)) (SlotStatus.UnsupportedVersion (h .«format_major»)) _ (failure refl refl)
-    (row-checked (eqb (h .«format_major») 0) (SlotStatus.UnsupportedVersion (h .«format_major»)) _ (failure refl refl)
-    (row-checked (ltb 2 (h .«format_major»)) (SlotStatus.UnsupportedVersion (h .«format_major»)) _ (failure refl refl)
-    (row-checked (not (eqb (h .«incompat_flags») 0)) (SlotStatus.Incompatible (h .«incompat_flags»)) _ (failure refl refl) pass)))))))
-
-shape-checked : (s : List ℕ) (h : RawHeader) (numbered : Bool) → Checked (shape s h numbered)
-unfolding shape
-shape-checked s h numbered =
-    row-checked (eqb (h .generation) 0) SlotStatus.Malformed _ (failure refl refl)
-    (row-checked (not (eqb (h .«slot_count») 2)) SlotStatus.Malformed _ (failure refl refl)
-    (row-checked (ltb 1 (h .«slot_index»)) SlotStatus.Malformed _ (failure refl refl)
-    (row-checked (not (eqb (h .reserved0) 0)) SlotStatus.Malformed _ (failure refl refl)
-    (row-checked (not (eqb (h .reserved1) 0)) SlotStatus.Malformed _ (failure refl refl)
-    (row-checked (not (allZero (take 24 (drop 104 s)))) SlotStatus.Malformed _ (failure refl refl)
-    (row-checked (not (numberOk (h .«format_major») numbered (h .«meta_seq»))) SlotStatus.Malformed _ (failure refl refl)
-    (row-checked (cond (eqb (h .«format_major») 2) (not (eqb (h .«header_len») 128)) false) SlotStatus.Malformed _ (failure refl refl) pass)))))))
-
-place-checked : (s : List ℕ) (h : RawHeader) (e : Expect) → Checked (place s h e)
-unfolding place
-place-checked s h e =
-    row-checked (not (same (take 16 (drop 32 s)) (e .«volume_uuid»))) SlotStatus.Foreign _ (failure refl refl)
-    (row-checked (not (eqb (h .«object_id») (e .«object_id»))) SlotStatus.WrongObject _ (failure refl refl)
-    (row-checked (not (eqb (h .«slot_offset») (e .«slot_offset»))) SlotStatus.Misplaced _ (failure refl refl)
-    (row-checked (not (eqb (h .«slot_index») (indexNumber (e .«slot_index»)))) SlotStatus.Misplaced _ (failure refl refl)
-    (row-checked (not (eqb (h .«log2_slot_size») (e .«log2_slot_size»))) SlotStatus.Misplaced _ (failure refl refl)
-    (row-checked (ltb (length s) (h .«header_len» + h .«payload_len»)) SlotStatus.Malformed _ (failure refl refl) pass)))))
-
-check-checked : (s : List ℕ) (h : RawHeader) (e : Expect) → Checked (check s h e)
-unfolding check
-check-checked s h e =
-    then-checked _ _ (integrity-checked s h (e .«format_major»)) (then-checked _ _ (shape-checked s h (e .numbered)) (place-checked s h e))
-
-pub parse-failed : (s : List ℕ) (e : Expect) (status : SlotStatus) → parseHeader s e ≡ Parsed.Failed status → Failure status
-unfolding parseHeader
-parse-failed s e status is = go (leb 128 (length s)) is
-  where
-    by-check : (answer : Check) → Checked answer → parsed (header s) answer ≡ Parsed.Failed status → Failure status
-    by-check answer pass is = let never : _≡_ {A = ℕ} 0 1 = cc in absurd (omega arith)
-    by-check answer (fail {status = other} known) is = let same : other ≡ status = cc in rw (← same) known
-
-    go : (long : Bool) → cond long (parsed (header s) (check s (header s) e)) (Parsed.Failed SlotStatus.BadLength) ≡ Parsed.Failed status → Failure status
-    go true is = by-check (check s (header s) e) (check-checked s (header s) e) is
-    go false is = let same : SlotStatus.BadLength ≡ status = cc in rw (← same) (failure refl refl)
-
 -- ---- from the status
 
 -- The three ways of `validate`.
@@ -196,7 +129,7 @@ blank-is s e is =
     by-payload false i is = let never : _≡_ {A = ℕ} 0 1 = cc in absurd (omega arith)
 
     by-failure : (f : SlotStatus) → Failure f → f ≡ SlotStatus.Blank → IsBlank s e
-    by-failure f (failure not-blank not-valid) is = false-true not-blank (ap (λ (x : SlotStatus). eqb (code x) 2) is)
+    by-failure f (Failure.failure from-1 not-blank not-valid) is = false-true not-blank (ap (λ (x : SlotStatus). eqb (code x) 2) is)
 
     by-header : (answer : Parsed) → parseHeader s e ≡ answer → status s answer ≡ SlotStatus.Blank → IsBlank s e
     by-header (Parsed.Failed f) parse is = by-failure f (parse-failed s e f parse) is
@@ -224,7 +157,7 @@ valid-is s e i is =
     by-payload false j crc parse length-is is = let never : _≡_ {A = ℕ} 0 1 = cc in absurd (omega arith)
 
     by-failure : (f : SlotStatus) → Failure f → f ≡ SlotStatus.Valid i → IsValid s e i
-    by-failure f (failure not-blank not-valid) is = let info : ValidInfo.Nothing ≡ ValidInfo.Info i = sym not-valid ∙ ap validInfo is in
+    by-failure f (Failure.failure from-1 not-blank not-valid) is = let info : ValidInfo.Nothing ≡ ValidInfo.Info i = sym not-valid ∙ ap validInfo is in
         let never : _≡_ {A = ℕ} 0 1 = cc in absurd (omega arith)
 
     by-header : (answer : Parsed) → parseHeader s e ≡ answer → lengthOk (length s) (e .«log2_slot_size») ≡ true

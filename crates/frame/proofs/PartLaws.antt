@@ -15,25 +15,11 @@ use Rattle.slot.specs.declared.slot.SlotStatus.{SlotStatus}
 use Rattle.slot.specs.declared.slot.ValidInfo.{ValidInfo}
 use Rattle.slot.specs.declared.slot.NumberedHeader.{NumberedHeader}
 use Rattle.slot.specs.declared.slot.HeaderFacts.{HeaderFacts}
+use Rattle.slot.proofs.StatusLaws.{code-small}
 use Rattle.frame.specs.Frame.{partWidth, partBy, partOf, partBytes, partFrom}
 use Rattle.frame.specs.declared.frame.SlotPart.{SlotPart}
 
 -- ---- the status and the facts are in range
-
-code-small : (st : SlotStatus) → code st ≤ 12
-code-small SlotStatus.ReadError = lit≤ tt
-code-small SlotStatus.BadLength = lit≤ tt
-code-small SlotStatus.Blank = lit≤ tt
-code-small SlotStatus.BadMagic = lit≤ tt
-code-small SlotStatus.BadHeaderCrc = lit≤ tt
-code-small (SlotStatus.UnsupportedVersion major) = lit≤ tt
-code-small (SlotStatus.Incompatible flags) = lit≤ tt
-code-small SlotStatus.Malformed = lit≤ tt
-code-small SlotStatus.Foreign = lit≤ tt
-code-small SlotStatus.WrongObject = lit≤ tt
-code-small SlotStatus.Misplaced = lit≤ tt
-code-small SlotStatus.BadPayloadCrc = lit≤ tt
-code-small (SlotStatus.Valid i) = lit≤ tt
 
 by-range : (c : ℕ) (f : HeaderFacts) (i : ValidInfo) → c ≤ 12 → (partBy c f i .code ≤ 12) × (partBy c f i .facts ≤ 2)
 by-range c HeaderFacts.Nothing (ValidInfo.Info i) small = (lit≤ tt, lit≤ tt)

@@ -1,3 +1,4 @@
 pub mod ReadLaws
 pub mod WriteLaws
 pub mod SlotLaws
+pub mod StatusLaws
