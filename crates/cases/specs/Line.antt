@@ -6,6 +6,10 @@ use lib.Dec.{ltb, eqb}
 use lib.ListN.{length, drop}
 use Rattle.cases.specs.declared.line.Fields.{Fields}
 
+-- What ends a line.
+abbrev pub newline : ℕ
+newline = 0x0a
+
 -- How many characters stand before the first c: all of them where there is none.
 unfoldable pub until : ℕ → List ℕ → ℕ
 until c [] = 0

@@ -10,7 +10,7 @@ use native.Mathlib.Omega.{arith}
 use borrow.Author.Tests.{le-leb, lt-leb, leb-true, leb-false, ltb-true}
 use borrow.Rule.Slice.PartMut.{putMid, take-put}
 use lib.Dec.{leb, ltb, lit<}
-use lib.ListN.{length, getD, take, drop, replicate, length-append, length-take, length-drop, drop-of-length-le, List·getD-append}
+use lib.ListN.{length, getD, take, drop, replicate, length-append, length-take, length-drop, drop-of-length-le, take-append-drop, List·getD-append}
 use lib.Seq.{drop-cons, take-add, drop-drop, take-at, drop-at, getD-append-add, getD-take, getD-drop, length-take-le, take-all}
 use Rattle.codec.specs.Bytes.{AllBytes, le, bytes, put, putWhole}
 use Rattle.codec.specs.Cursor.{Answer, done, refused, step, read, readBytes, readArray, run, write}
@@ -216,6 +216,15 @@ module _ (s : List ℕ) (i : ℕ) (vs : List ℕ) (fits : i + length vs ≤ leng
       (sym (drop-drop (length ws) end (head ++ tail)) ∙ ap (λ (d : List ℕ). drop (length ws) d) (drop-at head tail end length-head) ∙ drop-drop (length ws) end s)
       ∙ ap₂ (λ (t : List ℕ) (k : ℕ). t ++ drop k s) (append-assoc (take i s) vs ws)
       (add-assoc i (length vs) (length ws) ∙ ap (λ (k : ℕ). i + k) (sym (length-append vs ws)))
+
+-- The same, where the first one is w bytes and its result is known.
+pub put-more : (s t vs ws : List ℕ) (i w : ℕ) → i + w ≤ length s → length vs ≡ w → t ≡ put s i vs → put t (i + w) ws ≡ put s i (vs ++ ws)
+put-more s t vs ws i w fits size is =
+    ap (λ (l : List ℕ). put l (i + w) ws) is ∙ ap (λ (k : ℕ). put (put s i vs) (i + k) ws) (sym size) ∙ put-put s i vs (omega arith) ws
+
+pub put-nil : (s : List ℕ) (i : ℕ) → put s i [] ≡ s
+unfolding put
+put-nil s i = simp (append-nil, add-zero, take-append-drop)
 
 -- A number that was put is read back.
 pub le-put : (w v : ℕ) (s : List ℕ) (i : ℕ) → i + w ≤ length s → v < 256 ^ w → le w (put s i (bytes w v)) i ≡ v

@@ -1,3 +1,2 @@
-pub mod TextLaws
 pub mod JudgeLaws
 pub mod ResponseLaws

@@ -6,7 +6,9 @@ use lib.ListN.{length, drop}
 use borrow.Author.Tests.{le-leb, lt-leb}
 use Rattle.codec.specs.Bytes.{put}
 use Rattle.verdict_text.specs.declared.Responded.{Responded}
-use Rattle.verdict_text.specs.Text.{markOf, markLine, frameLines, lineCount, framesText, refusalLine, responseText}
+use Rattle.text_read.specs.Read.{markOf, markLine, framesIn}
+use Rattle.text_write.specs.Write.{refusalLine}
+use Rattle.verdict_text.specs.Text.{framesText, responseText}
 use Rattle.verdict_text.specs.Respond.{responseRoom, responded, respondedOut}
 
 module _ (s : List ℕ) where
@@ -18,7 +20,7 @@ module _ (s : List ℕ) where
   unfolding responseText
   text-unmarked fits unmarked = simp (le-leb _ _ fits, lt-leb _ _ unmarked)
 
-  pub text-marked : length s ≤ 65536 → markOf s ≤ 1 → responseText s ≡ framesText (markOf s) (frameLines (lineCount s) (drop markLine s))
+  pub text-marked : length s ≤ 65536 → markOf s ≤ 1 → responseText s ≡ framesText (markOf s) (framesIn (drop markLine s))
   unfolding responseText
   text-marked fits marked = simp (le-leb _ _ fits, le-leb _ _ marked)
 

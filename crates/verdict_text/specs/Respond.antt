@@ -1,14 +1,14 @@
 -- What `respond` answers (document 01, program `verdicts`) by the room of the lent output, and what it leaves there: the text at its
 -- front, or what it held.
-use mathlib.Core.Bool.{Bool, true, false, cond}
+use mathlib.Core.Bool.{cond}
 use mathlib.Core.List.{List}
-use mathlib.Core.Option.{Option, some, none}
 use Prim.Native.Nat.{ℕ, _+_, _*_}
 use lib.Dec.{leb}
 use lib.ListN.{length}
 use Rattle.codec.specs.Bytes.{put}
+use Rattle.text_write.specs.Write.{verdictLine, lastLine}
 use Rattle.verdict_text.specs.declared.Responded.{Responded}
-use Rattle.verdict_text.specs.Text.{verdictLine, lastLine, responseText}
+use Rattle.verdict_text.specs.Text.{responseText}
 
 -- The most pairs in a text of 65,536 bytes, and the room that its answer takes.
 abbrev pub mostPairs : ℕ
@@ -22,8 +22,3 @@ responded text room = cond (leb responseRoom room) (Responded.Bytes (length (res
 
 unfoldable pub respondedOut : List ℕ → List ℕ → List ℕ
 respondedOut text out = cond (leb responseRoom (length out)) (put out 0 (responseText text)) out
-
--- Bytes that are given or not.
-abbrev pub given : Bool → List ℕ → Option (List ℕ)
-given true bs = some bs
-given false bs = none

@@ -1,8 +1,13 @@
 -- `judge_frames` meets its contract: both answers of `judge` say what the text is.
-use mathlib.Core.Path.{sym, _∙_}
+use mathlib.Core.Path.{_≡_, sym, ap, _∙_}
+use native.Mathlib.Omega.{arith}
+use lib.ListN.{length}
 use borrow.Author.Needs.{needs}
 use denote.Ref.{now}
+use Rattle.judge_frames.specs.Frames.{judgedBytes}
+use Rattle.text_write.specs.Write.{judgementText}
 use Rattle.verdict_text.proofs.JudgeLaws.{text-refused, text-judged}
+use Rattle.text_write.proofs.WriteLaws.{length-judgement, all-written, refusal-written}
 use Rattle.verdict_text.proofs.judge_frames.Statement.{statement}
 use Rattle.verdict_text.proofs.judge_frames.Tie as tie
 
@@ -34,7 +39,8 @@ returns c =
     let asked = wrote .before .before .before .before .before .before .before in
     let start = asked .before .before .before .before .before in
     let answer = rw (start .pre .0) at (sym (asked .judge .ensures .0) ∙ told .1) in
-    rw (text-refused (now (start .args .frames)) (start .args .clean) (told .0 .0) answer) (wrote .put-refusal .ensures)
+    rw (text-refused (now (start .args .frames)) (start .args .clean) (told .0 .0) answer)
+    (refusal-written (told .0 .0) (now (start .args .output)) (omega arith) (wrote .put-refusal .ensures))
 
 same-length-3 : tie.Need-same-length-3
 same-length-3 c = search needs
@@ -50,7 +56,11 @@ returns-2 c =
     let start = asked .before .before .before .before .before in
     let a = start .args in
     let answer = rw (start .pre .0) at (sym (asked .judge .ensures .0) ∙ told .1) in
-    rw (text-judged (now (a .frames)) (a .clean) (told .0 .0) (now (a .verdicts)) (start .pre .0) answer) (rw (asked .judge .ensures .1) at (wrote .put-judgement .ensures))
+    let vs = judgedBytes (now (a .frames)) (a .clean) (now (a .verdicts)) in
+    let size : length vs ≡ length (now (a .verdicts)) = ap length (sym (asked .judge .ensures .1)) ∙ omega arith in
+    rw (text-judged (now (a .frames)) (a .clean) (told .0 .0) (now (a .verdicts)) (start .pre .0) answer)
+    (all-written (judgementText vs (told .0 .0)) (now (a .output)) (omega (arith, size, length-judgement vs (told .0 .0)))
+    (rw (asked .judge .ensures .1) at (wrote .put-judgement .ensures)))
 
 pub judge-frames-spec : {M : Type 1} → statement M
 judge-frames-spec =

@@ -1,9 +1,9 @@
 -- `digit` meets its contract: its test is that of the definition.
 use borrow.Author.Needs.{needs}
 use borrow.Author.Tests.{lt-ltb, le-ltb}
-use Rattle.verdict_text.specs.Text.{hexDigit}
-use Rattle.verdict_text.proofs.digit.Statement.{statement}
-use Rattle.verdict_text.proofs.digit.Tie as tie
+use Rattle.text_write.specs.Write.{hexDigit}
+use Rattle.text_write.proofs.digit.Statement.{statement}
+use Rattle.text_write.proofs.digit.Tie as tie
 
 add-result : tie.Need-add-result
 add-result c = search needs

@@ -5,10 +5,10 @@ use native.Mathlib.Omega.{arith}
 use lib.ListN.{length, getD}
 use borrow.Author.Needs.{needs}
 use denote.Ref.{now}
-use Rattle.verdict_text.specs.Text.{line}
-use Rattle.verdict_text.proofs.TextLaws.{line-high, line-low, line-end}
-use Rattle.verdict_text.proofs.character.Statement.{statement}
-use Rattle.verdict_text.proofs.character.Tie as tie
+use Rattle.text_write.specs.Write.{line}
+use Rattle.text_write.proofs.WriteLaws.{line-high, line-low, line-end}
+use Rattle.text_write.proofs.character.Statement.{statement}
+use Rattle.text_write.proofs.character.Tie as tie
 
 returns : tie.Need-returns
 returns c =

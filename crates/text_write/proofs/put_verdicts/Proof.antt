@@ -6,11 +6,12 @@ use native.Mathlib.Omega.{arith}
 use lib.ListN.{length, take, drop, length-take, length-drop}
 use denote.Ref.{now}
 use Rattle.codec.specs.Bytes.{put}
+use Rattle.codec.proofs.CursorLaws.{put-more, put-nil}
 use Rattle.judge_frames.specs.Frames.{verdictWidth}
-use Rattle.verdict_text.specs.Text.{line, verdictLines}
-use Rattle.verdict_text.proofs.TextLaws.{verdictsFrom, verdicts-start, verdicts-step, verdicts-end, length-verdict, put-nil, put-more}
-use Rattle.verdict_text.proofs.put_verdicts.Statement.{statement}
-use Rattle.verdict_text.proofs.put_verdicts.Tie as tie
+use Rattle.text_write.specs.Write.{line, verdictLines}
+use Rattle.text_write.proofs.WriteLaws.{verdictsFrom, verdicts-start, verdicts-step, verdicts-end, length-verdict}
+use Rattle.text_write.proofs.put_verdicts.Statement.{statement}
+use Rattle.text_write.proofs.put_verdicts.Tie as tie
 
 abbrev Inv-loop : tie.InvT-loop
 Inv-loop output₀ verdicts n i₀ output i = (i ≤ n) × (length output ≡ length output₀) × (put output (i * 9) (verdictsFrom n verdicts i) ≡ put output₀ 0 (verdictLines n verdicts))

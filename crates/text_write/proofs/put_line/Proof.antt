@@ -6,10 +6,10 @@ use lib.ListN.{length, length-set}
 use lib.Seq.{paste, paste-zero}
 use denote.Ref.{now}
 use Rattle.codec.proofs.Copy.{copy-more, copy-all}
-use Rattle.verdict_text.specs.Text.{line}
-use Rattle.verdict_text.proofs.TextLaws.{length-line}
-use Rattle.verdict_text.proofs.put_line.Statement.{statement}
-use Rattle.verdict_text.proofs.put_line.Tie as tie
+use Rattle.text_write.specs.Write.{line}
+use Rattle.text_write.proofs.WriteLaws.{length-line}
+use Rattle.text_write.proofs.put_line.Statement.{statement}
+use Rattle.text_write.proofs.put_line.Tie as tie
 
 abbrev Inv-loop : tie.InvT-loop
 Inv-loop output₀ at bytes done₀ output done = (done ≤ 2 * length bytes + 1) × (length output ≡ length output₀) × (output ≡ paste output₀ at (line bytes) done)

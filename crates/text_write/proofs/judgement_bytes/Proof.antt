@@ -1,9 +1,9 @@
 -- `judgement_bytes` meets its contract: each byte is that of the definition.
 use borrow.Author.Needs.{needs}
 use Rattle.codec.proofs.CursorLaws.{bytes-digits}
-use Rattle.verdict_text.specs.Text.{judgementBytes, healPair, flag}
-use Rattle.verdict_text.proofs.judgement_bytes.Statement.{statement}
-use Rattle.verdict_text.proofs.judgement_bytes.Tie as tie
+use Rattle.text_write.specs.Write.{judgementBytes, healPair, flag}
+use Rattle.text_write.proofs.judgement_bytes.Statement.{statement}
+use Rattle.text_write.proofs.judgement_bytes.Tie as tie
 
 heal-pair-requires : tie.Need-heal-pair-requires
 heal-pair-requires c κs = search needs
