@@ -12,10 +12,16 @@ use Rattle.slot.specs.Write.{encodeRefusal}
 use Rattle.slot.specs.declared.slot.SlotIndex.{SlotIndex}
 use Rattle.slot.specs.declared.slot.SlotFields.{SlotFields}
 use Rattle.frame.specs.declared.frame.SlotPart.{SlotPart}
-use Rattle.candidate.specs.Pairs.{numbered, badPayload, blank, oppositeSlot}
+use Rattle.candidate.specs.Pairs.{numbered, badPayload, blank, oppositeSlot, unsupported, pairCase}
 use Rattle.candidate.specs.Numbers.{qualifies}
+use Rattle.verdict.specs.Verdict.{winnerBeside}
+use Rattle.verdict.specs.Judge.{firstVerdicts, firstTally, cleanMark, storeRules, demoted, healOf, rowRules, verdicts, judgeRow}
+use Rattle.candidate.specs.declared.pairs.PairPart.{PairPart}
 use Rattle.candidate.specs.declared.pairs.MetaSeq.{MetaSeq}
 use Rattle.candidate.specs.declared.pairs.Opposite.{Opposite}
+use Rattle.verdict.specs.declared.verdict.SlotVerdict.{SlotVerdict}
+use Rattle.verdict.specs.declared.verdict.PairVerdict.{PairVerdict}
+use Rattle.verdict.specs.declared.verdict.Heal.{Heal}
 use Rattle.region.specs.Block.{clamp, blockSize, entriesPerPage}
 use Rattle.name.specs.Name.{nameOk, nameCheck}
 use Rattle.name.specs.Utf8.{firstByte, nextByte}
@@ -52,6 +58,17 @@ blankSlot = record { code = 2; facts = 0; generation = 0; «meta_seq» = 0; «he
 -- A write after a valid slot of generation 1, its payload torn.
 abbrev torn : ℕ → SlotPart
 torn number = record { code = 11; facts = 2; generation = 2; «meta_seq» = number; «header_crc32c» = 8; «prev_header_crc32c» = 7 }
+
+abbrev pair : SlotPart → SlotPart → PairPart
+pair a b = record { a = a; b = b }
+
+-- A volume record with a number, and a page beside a torn write with another one.
+abbrev numberedRow : ℕ → ℕ → List PairPart
+numberedRow highest candidate = pair (valid 1 highest) blankSlot ∷ pair (valid 1 1) (torn candidate) ∷ []
+
+-- What the judge answers over a row without a clean mark: the verdicts, and the slot to heal.
+abbrev judged : List PairPart → List PairVerdict × Heal
+judged row = (verdicts row false, judgeRow row false .heal)
 
 -- Both log2 12, one page.
 abbrev volume : VolumeMeta2
@@ -92,11 +109,20 @@ pub record Starred : Type 0 where
   pub a-first : oppositeSlot SlotIndex.A (valid 1 1) blankSlot ≡ Opposite.Nothing
   pub b-first : oppositeSlot SlotIndex.B (valid 1 1) blankSlot ≡ Opposite.Damage
   pub a-second : oppositeSlot SlotIndex.A (valid 2 1) blankSlot ≡ Opposite.Damage
+  pub a-first-judged : judged (pair (valid 1 1) blankSlot ∷ []) ≡ (winnerBeside SlotIndex.A SlotVerdict.Nothing ∷ [], Heal.Nothing)
+  pub b-first-judged : judged (pair blankSlot (valid 1 1) ∷ []) ≡ (winnerBeside SlotIndex.B SlotVerdict.Damage ∷ [], Heal.Nothing)
+  pub a-second-judged : judged (pair (valid 2 1) blankSlot ∷ []) ≡ (winnerBeside SlotIndex.A SlotVerdict.Damage ∷ [], Heal.Nothing)
   -- Numbers 4 and candidate 5: qualifies; 5 and 5, or 4 and 6: not.
   pub candidate : oppositeSlot SlotIndex.A (valid 1 4) (torn 5) ≡ Opposite.Candidate (MetaSeq.Number 5)
   pub numbers-4-5 : qualifies (valid 1 4 ∷ torn 5 ∷ []) 1 (MetaSeq.Number 5) ≡ true
   pub numbers-5-5 : qualifies (valid 1 5 ∷ torn 5 ∷ []) 1 (MetaSeq.Number 5) ≡ false
   pub numbers-4-6 : qualifies (valid 1 4 ∷ torn 6 ∷ []) 1 (MetaSeq.Number 6) ≡ false
+  pub judged-4-5 : judged (numberedRow 4 5)
+      ≡ (winnerBeside SlotIndex.A SlotVerdict.Nothing ∷ winnerBeside SlotIndex.A SlotVerdict.InFlight ∷ [], Heal.Slot 1 SlotIndex.B)
+  pub judged-5-5 : judged (numberedRow 5 5)
+      ≡ (winnerBeside SlotIndex.A SlotVerdict.Nothing ∷ winnerBeside SlotIndex.A SlotVerdict.Damage ∷ [], Heal.Nothing)
+  pub judged-4-6 : judged (numberedRow 4 6)
+      ≡ (winnerBeside SlotIndex.A SlotVerdict.Nothing ∷ winnerBeside SlotIndex.A SlotVerdict.Damage ∷ [], Heal.Nothing)
   -- 24 zero bytes as page 0: accepted.
   pub empty-page : decodePage (replicate 24 0) 0 41 ≡ given (page (record { «page_index» = 0; «next_seq» = 0; count = 0 }))
   -- Name of 24 letters: accepted; C0 80 (hexadecimal): 35.
@@ -107,7 +133,7 @@ pub record Starred : Type 0 where
   pub file-16383 : fileCheck volume 16383 ≡ refusal 26
 
 pub starred : Starred
-unfolding crc32c finalRemainder remainder digest reversed entriesPerPage blockSize clamp encodeRefusal oppositeSlot blank badPayload numbered decodePage le nameCheck nameOk firstByte nextByte tableEnd fileCheck
+unfolding crc32c finalRemainder remainder digest reversed entriesPerPage blockSize clamp encodeRefusal oppositeSlot blank badPayload numbered unsupported pairCase firstVerdicts firstTally cleanMark storeRules demoted healOf rowRules verdicts judgeRow decodePage le nameCheck nameOk firstByte nextByte tableEnd fileCheck
 starred =
     record {
       no-bytes = refl;
@@ -120,10 +146,16 @@ starred =
       a-first = refl;
       b-first = refl;
       a-second = refl;
+      a-first-judged = refl;
+      b-first-judged = refl;
+      a-second-judged = refl;
       candidate = refl;
       numbers-4-5 = refl;
       numbers-5-5 = refl;
       numbers-4-6 = refl;
+      judged-4-5 = refl;
+      judged-5-5 = refl;
+      judged-4-6 = refl;
       empty-page = refl;
       letters-24 = refl;
       c0-80 = refl;
