@@ -31,7 +31,7 @@ unfolding frameOf
 frame-none s differs = simp (ne-eqb _ _ differs)
 
 -- Half as many bytes as characters.
-pub decoded-size : (s bs : List ℕ) → decoded s ≡ some bs → length s ≡ 2 * length bs
+decoded-size : (s bs : List ℕ) → decoded s ≡ some bs → length s ≡ 2 * length bs
 decoded-size s bs is = let good : isSome (decoded s) ≡ true = rw is in rw is at (known-length s good)
 
 pub frame-size : (s bs : List ℕ) → 2 * frameWidth ≤ length s → frameOf s ≡ some bs → length bs ≡ frameWidth

@@ -69,20 +69,20 @@ length-verdicts (suc n) s fits =
     let enough : n * verdictWidth ≤ length (drop verdictWidth s) = simp length-drop (omega arith) in
     simp length-append (omega (arith, length-verdict s (omega arith), length-verdicts n (drop verdictWidth s) enough))
 
-pub put-second : (s t vs ws : List ℕ) (w : ℕ) → w ≤ length s → length vs ≡ w → t ≡ put s 0 vs → put t w ws ≡ put s 0 (vs ++ ws)
-put-second s t vs ws w fits size is = ap (λ (k : ℕ). put t k ws) (sym (zero-add w)) ∙ put-more s t vs ws 0 w (omega arith) size is
-
-pub judgement-length : (j : Judgement) → length (judgementBytes j) ≡ 8
+length-last : (j : Judgement) → length (judgementBytes j) ≡ 8
 unfolding judgementBytes bytes
-judgement-length j = refl
+length-last j = refl
 
 pub length-judgement : (vs : List ℕ) (j : Judgement) → length (judgementText vs j) ≡ length vs / verdictWidth * 9 + 17
 length-judgement vs j =
     let verdicts = length-verdicts (length vs / verdictWidth) vs (omega arith) in
     let last = length-line (judgementBytes j) in
-    simp length-append (omega (arith, verdicts, last, judgement-length j))
+    simp length-append (omega (arith, verdicts, last, length-last j))
 
 -- ---- a text with room or without
+
+pub put-second : (s t vs ws : List ℕ) (w : ℕ) → w ≤ length s → length vs ≡ w → t ≡ put s 0 vs → put t w ws ≡ put s 0 (vs ++ ws)
+put-second s t vs ws w fits size is = ap (λ (k : ℕ). put t k ws) (sym (zero-add w)) ∙ put-more s t vs ws 0 w (omega arith) size is
 
 module _ (t out : List ℕ) where
   pub written-none : length out < length t → (0 ≡ written t (length out)) × (out ≡ putWhole out 0 t)
@@ -94,13 +94,13 @@ module _ (t out : List ℕ) where
   written-all fits count is = (count ∙ simp (le-leb _ _ fits), is ∙ sym (put-whole out 0 t (omega arith)))
 
   -- What a caller with the room gets.
-  pub all-written : {r : ℕ} {new : List ℕ} → length t ≤ length out → (r ≡ written t (length out)) × (new ≡ putWhole out 0 t)
+  pub written-whole : {r : ℕ} {new : List ℕ} → length t ≤ length out → (r ≡ written t (length out)) × (new ≡ putWhole out 0 t)
       → (r ≡ length t) × (new ≡ put out 0 t)
   unfolding written
-  all-written fits wrote = (wrote .0 ∙ simp (le-leb _ _ fits), wrote .1 ∙ put-whole out 0 t (omega arith))
+  written-whole fits wrote = (wrote .0 ∙ simp (le-leb _ _ fits), wrote .1 ∙ put-whole out 0 t (omega arith))
 
 pub refusal-written : (code : ℕ) (out : List ℕ) {r : ℕ} {new : List ℕ} → 4 ≤ length out
     → (r ≡ written (refusalLine code) (length out)) × (new ≡ putWhole out 0 (refusalLine code))
     → (r ≡ length (refusalLine code)) × (new ≡ put out 0 (refusalLine code))
 unfolding refusalLine
-refusal-written code out = all-written (refusalLine code) out
+refusal-written code out = written-whole (refusalLine code) out

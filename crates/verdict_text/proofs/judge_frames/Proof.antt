@@ -7,7 +7,7 @@ use denote.Ref.{now}
 use Rattle.judge_frames.specs.Frames.{judgedBytes}
 use Rattle.text_write.specs.Write.{judgementText}
 use Rattle.verdict_text.proofs.JudgeLaws.{text-refused, text-judged}
-use Rattle.text_write.proofs.WriteLaws.{length-judgement, all-written, refusal-written}
+use Rattle.text_write.proofs.WriteLaws.{length-judgement, written-whole, refusal-written}
 use Rattle.verdict_text.proofs.judge_frames.Statement.{statement}
 use Rattle.verdict_text.proofs.judge_frames.Tie as tie
 
@@ -59,7 +59,7 @@ returns-2 c =
     let vs = judgedBytes (now (a .frames)) (a .clean) (now (a .verdicts)) in
     let size : length vs ≡ length (now (a .verdicts)) = ap length (sym (asked .judge .ensures .1)) ∙ omega arith in
     rw (text-judged (now (a .frames)) (a .clean) (told .0 .0) (now (a .verdicts)) (start .pre .0) answer)
-    (all-written (judgementText vs (told .0 .0)) (now (a .output)) (omega (arith, size, length-judgement vs (told .0 .0)))
+    (written-whole (judgementText vs (told .0 .0)) (now (a .output)) (omega (arith, size, length-judgement vs (told .0 .0)))
     (rw (asked .judge .ensures .1) at (wrote .put-judgement .ensures)))
 
 pub judge-frames-spec : {M : Type 1} → statement M
