@@ -1,6 +1,5 @@
 // The text of program `verdicts`: what it prints for what it reads, as a function on slices.
 use cases::hex::Decoded;
-use verdict::verdict::Judged;
 use text_read::FRAME;
 use text_read::MARK_LINE;
 use text_read::mark_of;
@@ -10,6 +9,7 @@ use text_write::VERDICT;
 use text_write::VERDICT_LINE;
 use text_write::put_judgement;
 use text_write::put_refusal;
+use verdict::verdict::Judged;
 ghost use mathlib.Core.Path.{_≡_};
 ghost use Prim.Native.Nat.{_+_, _*_, _≤_};
 ghost use lib.ListN.{length};
