@@ -9,7 +9,7 @@ use lib.ListN.{length, getD, replicate}
 use lib.Pow.{pow-pos}
 use lib.Bits.{bitXor, xor-self, xor-lt}
 use Rattle.codec.specs.Bytes.{bytes32}
-use Rattle.codec.specs.Crc32c.{bits, message, finalRemainder, remainder, reversed, digest, crc32c, crc32cAppend}
+use Rattle.codec.specs.Crc32c.{bits, message, finalRemainder, reversed, digest, crc32c, crc32cAppend}
 use Rattle.codec.specs.Register.{bitSteps, register}
 use Rattle.codec.proofs.Xor.{xor-assoc, xor-twice, xor-ones}
 use Rattle.codec.proofs.Message.{message-all, bits-low, message-bytes, message-append}

@@ -198,12 +198,6 @@ module _ (s : List ℕ) (i : ℕ) (vs : List ℕ) (fits : i + length vs ≤ leng
       ∙ ap (λ (n : ℕ). getD s n 0) at
 
   -- A number beside a write is as it was.
-  pub le-put-before : (w j : ℕ) → j + w ≤ i → le w (put s i vs) j ≡ le w s j
-  le-put-before w j before = le-same w (put s i vs) s j (λ k from below. put-before k (omega arith))
-
-  pub le-put-behind : (w j : ℕ) → i + length vs ≤ j → le w (put s i vs) j ≡ le w s j
-  le-put-behind w j behind = le-same w (put s i vs) s j (λ k from below. put-behind k (omega arith))
-
   -- A write and one right behind it are one write.
   pub put-put : (ws : List ℕ) → put (put s i vs) (i + length vs) ws ≡ put s i (vs ++ ws)
   unfolding put

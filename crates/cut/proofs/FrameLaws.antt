@@ -7,7 +7,7 @@ use Prim.Native.Nat.{ℕ, suc, _*_, _≤_, _<_}
 use native.Mathlib.Omega.{arith}
 use borrow.Author.Tests.{eq-eqb, ne-eqb}
 use lib.ListN.{length, take}
-use Rattle.codec.specs.Bytes.{AllBytes, le32, same, allZero}
+use Rattle.codec.specs.Bytes.{AllBytes, le32, same, allZero, flag}
 use Rattle.codec.proofs.CursorLaws.{le-lt}
 use Rattle.slot.specs.Status.{code, validInfo}
 use Rattle.slot.specs.Read.{magic, header, info, lengthOk, parseHeader, payloadOk, status as statusBy, validate, facts, headerFacts}
@@ -23,7 +23,7 @@ use Rattle.frame.specs.declared.frame.SlotPart.{SlotPart}
 use Rattle.frame.proofs.PartLaws.{InfoFits, ValidFits, FactsFit, part-range, part-fits}
 use Rattle.verdict.specs.Verdict.{verdictBytes}
 use Rattle.verdict.specs.Judge.{refusedRow, verdicts, judgeRow}
-use Rattle.judge_frames.specs.Frames.{verdictWidth, judged, judgedBytes, markOf}
+use Rattle.judge_frames.specs.Frames.{verdictWidth, judged, judgedBytes}
 use Rattle.verdict.specs.declared.verdict.Judged.{Judged}
 use Rattle.judge_frames.proofs.FilledLaws.{Filled, AllFilled, filled-judged, filled-bytes}
 use Rattle.cut.specs.Store.{Every, Slot, Pair, status, numbersGiven, checksumGiven, filled, slotPart, pairPart, parts, frames, Typed}
@@ -145,8 +145,8 @@ module _ (ps : List Pair) (typed : Every PairTyped ps) (some : 1 ≤ length ps) 
   nothing-refused : refusedRow (length (parts ps)) (length ps) ≡ 0
   nothing-refused = rw (length-parts ps) (not-refused (length ps) some)
 
-  pub judged-row : judged (frames ps) (markOf mark) (length out) ≡ Judged.Done (judgeRow (parts ps) mark)
+  pub judged-row : judged (frames ps) (flag mark) (length out) ≡ Judged.Done (judgeRow (parts ps) mark)
   judged-row = simp (room, filled-judged (parts ps) (row-filled ps typed) mark (length ps), nothing-refused)
 
-  pub judged-bytes : judgedBytes (frames ps) (markOf mark) out ≡ verdictBytes (verdicts (parts ps) mark)
+  pub judged-bytes : judgedBytes (frames ps) (flag mark) out ≡ verdictBytes (verdicts (parts ps) mark)
   judged-bytes = simp (filled-bytes (parts ps) (row-filled ps typed) mark out (length ps) room, nothing-refused)

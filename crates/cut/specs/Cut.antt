@@ -11,7 +11,7 @@ use mathlib.Core.List.{List, [], _∷_, _++_}
 use Prim.Native.Nat.{ℕ, _+_, _*_, _^_, _≤_, _<_}
 use lib.Dec.{ltb, eqb}
 use lib.ListN.{length, take, drop}
-use Rattle.codec.specs.Bytes.{AllBytes, le16, le32, same}
+use Rattle.codec.specs.Bytes.{AllBytes, le16, le32, same, flag}
 use Rattle.codec.specs.Crc32c.{crc32c}
 use Rattle.slot.specs.Status.{other}
 use Rattle.slot.specs.Read.{headerSum}
@@ -30,7 +30,7 @@ use Rattle.verdict.specs.declared.verdict.WinnerSlot.{WinnerSlot}
 use Rattle.verdict.specs.declared.verdict.PairVerdict.{PairVerdict}
 use Rattle.verdict.specs.declared.verdict.Heal.{Heal}
 use Rattle.verdict.specs.declared.verdict.Judgement.{Judgement}
-use Rattle.judge_frames.specs.Frames.{verdictWidth, judged, judgedBytes, markOf}
+use Rattle.judge_frames.specs.Frames.{verdictWidth, judged, judgedBytes}
 use Rattle.judge.specs.Row.{rowJudged, rowVerdicts}
 use Rattle.verdict.specs.declared.verdict.Judged.{Judged}
 use Rattle.cut.specs.Store.{Every, Slot, Pair, accepts, cleanMark, slotAt, report, parts, frames, reads, lastRecord, lastRecords, storeMark, Sound}
@@ -172,8 +172,8 @@ pub record Survives (w : Write) (out : List ℕ) : Type 0 where
   pub verdict : List PairVerdict
   pub judgement : Judgement
   -- `judge` over the frames,
-  pub answer : judged (frames (after w)) (markOf (handed w)) (length out) ≡ Judged.Done judgement
-  pub written : judgedBytes (frames (after w)) (markOf (handed w)) out ≡ verdictBytes verdict
+  pub answer : judged (frames (after w)) (flag (handed w)) (length out) ≡ Judged.Done judgement
+  pub written : judgedBytes (frames (after w)) (flag (handed w)) out ≡ verdictBytes verdict
   -- and over the row of pairs the same.
   pub row-answer : rowJudged (reads (after w)) (handed w) (length (after w)) ≡ Judged.Done judgement
   pub row-written : (rows : List PairVerdict) → length rows ≡ length (after w) → rowVerdicts (reads (after w)) (handed w) rows ≡ verdict

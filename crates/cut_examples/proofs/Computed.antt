@@ -5,7 +5,7 @@ use mathlib.Core.Bool.{Bool, true, false, cond}
 use mathlib.Core.List.{List, [], _∷_}
 use Prim.Native.Nat.{ℕ}
 use lib.ListN.{replicate}
-use Rattle.codec.specs.Bytes.{le, bytes}
+use Rattle.codec.specs.Bytes.{le, bytes, flag}
 use Rattle.codec.specs.Crc32c.{crc32c, finalRemainder, remainder, digest, reversed}
 use Rattle.slot.specs.Read.{lengthOk, headerSum, integrity, numberOk, shape, place, check, parseHeader, payloadStart, payloadLength, payload as payloadOf, payloadOk}
 use Rattle.slot.specs.Write.{frontBytes, identityBytes, historyBytes, headerBytes, headerCrc, encodedBytes}
@@ -18,7 +18,7 @@ use Rattle.frame.specs.Frame.{partFrom, partBytes}
 use Rattle.verdict.specs.declared.verdict.Heal.{Heal}
 use Rattle.candidate.specs.Pairs.{numbered, badPayload, badHeader, blank, oppositeSlot, unsupported, newer, pairCase}
 use Rattle.verdict.specs.Judge.{firstVerdicts, firstTally, cleanMark, storeRules, demoted, healOf, writable, rowRules, verdicts, judgeRow}
-use Rattle.judge_frames.specs.Frames.{pairFrom, partInRange, pairInRange, refusal, judged, judgedBytes, framesOf, markOf}
+use Rattle.judge_frames.specs.Frames.{pairFrom, partInRange, pairInRange, refusal, judged, judgedBytes, framesOf}
 use Rattle.judge_step.specs.declared.SlotRead.{SlotRead}
 use Rattle.verdict.specs.declared.verdict.Judged.{Judged}
 use Rattle.page_write.specs.Write.{headerBytes as pageHeaderBytes}
@@ -192,8 +192,8 @@ module _ (k : ℕ) (x : SlotRead) (read : readOnce (cut k markedBytes blankBytes
       (record { a = volumeRead; b = x } ∷ record { a = olderRead; b = newerRead } ∷ record { a = secondRead; b = blankRead } ∷ []))
 
   volume-at : {heal : Heal} {clean : Bool} {verdict : List ℕ}
-      → judged volumeRow (markOf mark) 12 ≡ Judged.Done (record { heal = heal; writable = true; clean = clean; refused = false })
-      → judgedBytes volumeRow (markOf mark) (replicate 12 0) ≡ verdict
+      → judged volumeRow (flag mark) 12 ≡ Judged.Done (record { heal = heal; writable = true; clean = clean; refused = false })
+      → judgedBytes volumeRow (flag mark) (replicate 12 0) ≡ verdict
       → Computed (volumeWrite k) heal clean verdict (r ∷ pageRecord 0 2 ∷ pageRecord 1 0 ∷ [])
   volume-at =
       computed-row (volumeWrite k) {mark = mark} (more marked-pair (more first-page (more second-page none))) (volume-handed k ∙ mark-is)

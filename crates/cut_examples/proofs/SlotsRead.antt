@@ -4,7 +4,7 @@ use mathlib.Core.Bool.{Bool, true, false, cond, not}
 use mathlib.Core.List.{List, [], _∷_, _++_}
 use Prim.Native.Nat.{ℕ}
 use lib.ListN.{length, take, replicate}
-use Rattle.codec.specs.Bytes.{le32, same, allZero}
+use Rattle.codec.specs.Bytes.{le32, same, allZero, flag}
 use Rattle.slot.specs.Read.{lengthOk, parseHeader, status as statusBy, validate, facts, headerFacts, magic}
 use Rattle.slot.specs.declared.slot.Expect.{Expect}
 use Rattle.slot.specs.declared.slot.Parsed.{Parsed}
@@ -16,7 +16,7 @@ use Rattle.frame.specs.Frame.{partBytes}
 use Rattle.frame.specs.declared.frame.SlotPart.{SlotPart}
 use Rattle.candidate.specs.declared.pairs.PairPart.{PairPart}
 use Rattle.verdict.specs.declared.verdict.Heal.{Heal}
-use Rattle.judge_frames.specs.Frames.{judged, judgedBytes, framesOf, markOf}
+use Rattle.judge_frames.specs.Frames.{judged, judgedBytes, framesOf}
 use Rattle.judge_step.specs.Step.{partRead}
 use Rattle.judge_step.specs.declared.SlotRead.{SlotRead}
 use Rattle.judge_step.specs.declared.PairRead.{PairRead}
@@ -40,9 +40,9 @@ pub data AllRead : List Pair → List (List ℕ) → Type 0 where
 -- After the cut of w the judge answers this heal and this clean mark, writable and not refused, and writes these verdicts; and these
 -- records are read back.
 pub record Computed (w : Write) (heal : Heal) (clean : Bool) (verdict : List ℕ) (records : List (List ℕ)) : Type 0 where
-  pub answer : judged (frames (after w)) (markOf (handed w)) 12
+  pub answer : judged (frames (after w)) (flag (handed w)) 12
       ≡ Judged.Done (record { heal = heal; writable = true; clean = clean; refused = false })
-  pub written : judgedBytes (frames (after w)) (markOf (handed w)) (replicate 12 0) ≡ verdict
+  pub written : judgedBytes (frames (after w)) (flag (handed w)) (replicate 12 0) ≡ verdict
   pub back : AllRead (after w) records
 
 -- ---- slots as they are read
@@ -126,8 +126,8 @@ row-back (more pair row) = AllRead.more (pair .back) (pair .accepted) (row-back 
 
 pub computed-row : (w : Write) {xs : List PairRead} {rs : List (List ℕ)} {mark : Bool} {heal : Heal} {clean : Bool} {verdict : List ℕ}
     → RowRecords (after w) xs rs → handed w ≡ mark
-    → judged (framesOf (filledRow xs)) (markOf mark) 12 ≡ Judged.Done (record { heal = heal; writable = true; clean = clean; refused = false })
-    → judgedBytes (framesOf (filledRow xs)) (markOf mark) (replicate 12 0) ≡ verdict
+    → judged (framesOf (filledRow xs)) (flag mark) 12 ≡ Judged.Done (record { heal = heal; writable = true; clean = clean; refused = false })
+    → judgedBytes (framesOf (filledRow xs)) (flag mark) (replicate 12 0) ≡ verdict
     → Computed w heal clean verdict rs
 computed-row w row mark-is answer written =
     record { answer = rw (row-frames row, mark-is) answer; written = rw (row-frames row, mark-is) written; back = row-back row }

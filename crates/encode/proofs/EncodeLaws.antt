@@ -9,9 +9,9 @@ use borrow.Author.Tests.{le-ltb, le-leb, eq-eqb, ne-eqb}
 use lib.Dec.{lit≤, eqb}
 use lib.ListN.{length, getD, take, drop, replicate, length-append, length-replicate}
 use lib.Seq.{take-at, drop-at, drop-drop}
-use Rattle.codec.specs.Bytes.{le, bytes, bytes16, bytes32, bytes64, put, allZero}
+use Rattle.codec.specs.Bytes.{le, bytes, bytes32, bytes64, put, allZero}
 use Rattle.codec.specs.Crc32c.{crc32c}
-use Rattle.codec.proofs.CursorLaws.{le-byte, length-bytes, le-bytes, le-shift}
+use Rattle.codec.proofs.CursorLaws.{le-byte, le-bytes, le-shift}
 use Rattle.codec.proofs.ChecksumLaws.{crc-lt}
 use Rattle.codec.proofs.RunLaws.{same-refl}
 use Rattle.slot.specs.Status.{indexNumber}

@@ -4,7 +4,7 @@ use mathlib.Core.List.{List, [], _∷_}
 use Prim.Native.Nat.{ℕ}
 use Rattle.codec.specs.Outcome.{Outcome, given, refusal, andThen}
 use Rattle.region.specs.Kind.{kindNumber}
-use Rattle.winner.specs.Winner.{flag}
+use Rattle.codec.specs.Bytes.{flag}
 use Rattle.name.specs.declared.meta.RegionName.{RegionName}
 use Rattle.name.specs.Name.{noName}
 use Rattle.volume_base.specs.declared.meta.VolumeMeta.{VolumeMeta}

@@ -2,19 +2,10 @@
 -- 1 A, 2 B.
 use mathlib.Core.List.{List, [], _∷_}
 use Prim.Native.Nat.{ℕ}
-use Rattle.verdict.specs.declared.verdict.Heal.{Heal}
 use Rattle.verdict.specs.declared.verdict.Judgement.{Judgement}
 use Rattle.verdict.specs.declared.verdict.Judged.{Judged}
-use Rattle.slot.specs.Status.{slotNumber}
-use Rattle.winner.specs.Winner.{flag}
-
-abbrev pub healSlot : Heal → ℕ
-healSlot Heal.Nothing = 0
-healSlot (Heal.Slot pair index) = slotNumber index
-
-abbrev pub healPair : Heal → ℕ
-healPair Heal.Nothing = 0
-healPair (Heal.Slot pair index) = pair
+use Rattle.codec.specs.Bytes.{flag}
+use Rattle.verdict.specs.Verdict.{healSlot, healPair}
 
 -- The slot to heal and its pair, writable, clean, refused.
 unfoldable pub judgementValues : Judgement → List ℕ

@@ -3,11 +3,12 @@ use mathlib.Core.Bool.{cond}
 use mathlib.Core.List.{List, [], _∷_}
 use Prim.Native.Nat.{ℕ}
 use lib.Dec.{ltb, eqb}
+use Rattle.codec.specs.Bytes.{flag}
 use Rattle.slot.specs.declared.slot.SlotInfo.{SlotInfo}
 use Rattle.slot.specs.declared.slot.SlotStatus.{SlotStatus}
 use Rattle.pair.specs.Pair.{nextWrite}
 use Rattle.slot.specs.Status.{slotNumber}
-use Rattle.winner.specs.Winner.{winnerNumber, winnerSlot, flag}
+use Rattle.winner.specs.Winner.{winnerNumber, winnerSlot}
 use Rattle.pair.specs.declared.pair.PairReport.{PairReport}
 use Rattle.pair.specs.declared.pair.NextWrite.{NextWrite}
 

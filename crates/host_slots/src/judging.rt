@@ -2,8 +2,9 @@
 use verdict::verdict::Heal;
 use verdict::verdict::Judgement;
 ghost use mathlib.Core.Path.{_≡_};
-ghost use Rattle.host_slots.specs.Judging.{judgementValues, healSlot, healPair};
-ghost use Rattle.winner.specs.Winner.{flag};
+ghost use Rattle.host_slots.specs.Judging.{judgementValues};
+ghost use Rattle.codec.specs.Bytes.{flag};
+ghost use Rattle.verdict.specs.Verdict.{healSlot, healPair};
 
 // The slot to heal and its pair, writable, clean, refused.
 pub fn judgement_values(j: Judgement) -> [u64; 5]

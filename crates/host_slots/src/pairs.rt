@@ -1,4 +1,5 @@
 // A pair from the numbers of a C host, and its report as bytes.
+use codec::bytes::flag;
 use pair::pair::NextWrite;
 use pair::pair::PairReport;
 use slot::slot::SlotInfo;
@@ -50,8 +51,8 @@ pub fn report_bytes(report: PairReport) -> [u8; 5]
     [
         winner::winner_number(winner),
         winner::winner_slot(winner),
-        winner::flag(report.generation_gap),
-        winner::flag(report.chain_break),
+        flag(report.generation_gap),
+        flag(report.chain_break),
         next_number(report.next_write()),
     ]
 }

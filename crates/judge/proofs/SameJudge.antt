@@ -11,6 +11,7 @@ use mir.Val.{Val}
 use denote.Laws.{Is}
 use denote.Struct.Laws as LL
 use denote.Enum.Laws as EL
+use Rattle.codec.specs.Bytes.{flag}
 use Rattle.slot.specs.Status.{validInfo}
 use Rattle.slot.specs.declared.slot.SlotInfo.{SlotInfo}
 use Rattle.slot.specs.declared.slot.SlotStatus.{SlotStatus}
@@ -27,7 +28,7 @@ use Rattle.frame.proofs.PartLaws.{InfoFits, ValidFits, FactsFit, part-range, pa
 use Rattle.verdict.specs.declared.verdict.PairVerdict.{PairVerdict}
 use Rattle.verdict.specs.Verdict.{verdictBytes}
 use Rattle.verdict.specs.Judge.{refusedRow, verdicts}
-use Rattle.judge_frames.specs.Frames.{verdictWidth, judged, judgedBytes, framesOf, markOf}
+use Rattle.judge_frames.specs.Frames.{verdictWidth, judged, judgedBytes, framesOf}
 use Rattle.judge_frames.proofs.FilledLaws.{Filled, AllFilled, filled-judged, filled-bytes}
 use Rattle.judge_step.specs.declared.SlotRead.{SlotRead}
 use Rattle.judge_step.specs.declared.PairRead.{PairRead}
@@ -102,12 +103,12 @@ either-bytes true xs ys = refl
 either-bytes false xs ys = refl
 
 module _ (ps : List PairRead) (typed : RowTyped ps) (clean : Bool) where
-  pub same-answer : (room : ℕ) → judged (framesOf (rowRead ps)) (markOf clean) (room * verdictWidth) ≡ rowJudged ps clean room
+  pub same-answer : (room : ℕ) → judged (framesOf (rowRead ps)) (flag clean) (room * verdictWidth) ≡ rowJudged ps clean room
   unfolding rowJudged
   same-answer room = simp length-read at (filled-judged (rowRead ps) (row-filled ps typed) clean room)
 
   pub same-verdicts : (out : List PairVerdict)
-      → judgedBytes (framesOf (rowRead ps)) (markOf clean) (verdictBytes out) ≡ verdictBytes (rowVerdicts ps clean out)
+      → judgedBytes (framesOf (rowRead ps)) (flag clean) (verdictBytes out) ≡ verdictBytes (rowVerdicts ps clean out)
   unfolding rowVerdicts
   same-verdicts out =
       let by-frames = filled-bytes (rowRead ps) (row-filled ps typed) clean (verdictBytes out) (length out) (length-verdicts out) in

@@ -1,14 +1,16 @@
 -- The frames filled from a row of parts decode to that row, so that the judge over the frames judges it: nothing is refused but an empty
 -- row and another room than the verdicts need.
 use mathlib.Core.Path.{_≡_, refl, sym, ap, ap₂, _∙_}
-use mathlib.Core.Bool.{Bool, true, false, cond}
+use mathlib.Core.Bool.{Bool, true, cond}
 use mathlib.Core.List.{List, [], _∷_, _++_}
 use Prim.Native.Nat.{ℕ, _*_, _%_, _≤_}
 use native.Mathlib.Omega.{arith}
 use borrow.Author.Tests.{eq-eqb, le-leb}
-use lib.Dec.{eqb, leb}
+use lib.Dec.{eqb}
 use lib.ListN.{length, drop, length-append}
 use lib.Seq.{drop-drop}
+use Rattle.codec.proofs.RunLaws.{flag-small, flag-read}
+use Rattle.codec.specs.Bytes.{flag}
 use Rattle.frame.specs.Frame.{partWidth, partBytes, partFrom}
 use Rattle.frame.specs.declared.frame.SlotPart.{SlotPart}
 use Rattle.frame.proofs.PartLaws.{PartFits, part-read, length-part, part-next}
@@ -17,7 +19,7 @@ use Rattle.candidate.proofs.NumberLaws.{same-test}
 use Rattle.verdict.specs.Verdict.{verdictBytes}
 use Rattle.verdict.specs.Judge.{refusedRow, verdicts, judgeRow}
 use Rattle.verdict.specs.declared.verdict.Judged.{Judged}
-use Rattle.judge_frames.specs.Frames.{frameWidth, verdictWidth, pairs, pairFrom, row, partInRange, pairInRange, inRange, refusal, judged, judgedBytes, framesOf, markOf}
+use Rattle.judge_frames.specs.Frames.{frameWidth, verdictWidth, pairs, pairFrom, row, partInRange, pairInRange, inRange, refusal, judged, judgedBytes, framesOf}
 
 -- A part that a frame can hold: its fields fit, and its status and facts are in range.
 pub record Filled (p : SlotPart) : Type 0 where
@@ -64,14 +66,6 @@ row-in-range (p ∷ ps) (AllFilled.more a b rest) = simp (part-in-range (p .a) a
 
 -- ---- the judge over the frames
 
-mark-small : (clean : Bool) → leb (markOf clean) 1 ≡ true
-mark-small true = refl
-mark-small false = refl
-
-mark-read : (clean : Bool) → eqb (markOf clean) 1 ≡ clean
-mark-read true = refl
-mark-read false = refl
-
 module _ (ps : List PairPart) (filled : AllFilled ps) (clean : Bool) where
   abbrev frames : List ℕ
   frames = framesOf ps
@@ -82,7 +76,7 @@ module _ (ps : List PairPart) (filled : AllFilled ps) (clean : Bool) where
   row-is : row (pairs frames) frames ≡ ps
   row-is = ap (λ (n : ℕ). row n frames) pairs-are ∙ row-decoded ps filled
 
-  pub filled-refusal : (room : ℕ) → refusal frames (markOf clean) (room * verdictWidth) ≡ refusedRow (length ps) room
+  pub filled-refusal : (room : ℕ) → refusal frames (flag clean) (room * verdictWidth) ≡ refusedRow (length ps) room
   unfolding refusal refusedRow
   filled-refusal room =
       let whole : length frames % frameWidth ≡ 0 = omega (arith, length-frames ps) in
@@ -90,15 +84,15 @@ module _ (ps : List PairPart) (filled : AllFilled ps) (clean : Bool) where
       same-test (length frames) 0 (length ps) 0 (λ is. omega (arith, length-frames ps, is)) (λ is. omega (arith, length-frames ps, is)) in
       let rooms : eqb (room * verdictWidth) (length ps * verdictWidth) ≡ eqb room (length ps) =
       same-test (room * verdictWidth) (length ps * verdictWidth) room (length ps) (λ is. omega (arith, is)) (λ is. omega (arith, is)) in
-      rw (empty, eq-eqb (length frames % frameWidth) 0 whole, row-is, pairs-are, rooms, mark-small clean, row-in-range ps filled) refl
+      rw (empty, eq-eqb (length frames % frameWidth) 0 whole, row-is, pairs-are, rooms, le-leb (flag clean) 1 (flag-small clean), row-in-range ps filled) refl
 
   pub filled-judged : (room : ℕ)
-      → judged frames (markOf clean) (room * verdictWidth)
+      → judged frames (flag clean) (room * verdictWidth)
       ≡ cond (eqb (refusedRow (length ps) room) 0) (Judged.Done (judgeRow ps clean)) (Judged.Refusal (refusedRow (length ps) room))
   unfolding judged
-  filled-judged room = simp (filled-refusal room, row-is, mark-read clean)
+  filled-judged room = simp (filled-refusal room, row-is, flag-read clean)
 
   pub filled-bytes : (out : List ℕ) (room : ℕ) → length out ≡ room * verdictWidth
-      → judgedBytes frames (markOf clean) out ≡ cond (eqb (refusedRow (length ps) room) 0) (verdictBytes (verdicts ps clean)) out
+      → judgedBytes frames (flag clean) out ≡ cond (eqb (refusedRow (length ps) room) 0) (verdictBytes (verdicts ps clean)) out
   unfolding judgedBytes
-  filled-bytes out room fits = simp (fits, filled-refusal room, row-is, mark-read clean)
+  filled-bytes out room fits = simp (fits, filled-refusal room, row-is, flag-read clean)

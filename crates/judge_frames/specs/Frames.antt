@@ -71,7 +71,3 @@ judgedBytes frames clean out =
 abbrev pub framesOf : List PairPart → List ℕ
 framesOf [] = []
 framesOf (p ∷ ps) = partBytes (p .a) ++ (partBytes (p .b) ++ framesOf ps)
-
--- The mark as a frame's host hands it over.
-abbrev pub markOf : Bool → ℕ
-markOf clean = cond clean 1 0

@@ -8,10 +8,10 @@ use native.Mathlib.Omega.{arith}
 use borrow.Author.Tests.{eq-eqb, lt-leb, le-ltb, leb-false, ltb-false, eqb-true, not-false}
 use lib.Dec.{leb, ltb, eqb, lit≤, lit<}
 use lib.ListN.{length, getD, take, drop, replicate, length-append, length-drop, take-append-drop, List·getD-append}
-use lib.Seq.{drop-at, take-all, take-add, getD-take, getD-drop, length-take-le}
+use lib.Seq.{drop-at, take-all, take-add, getD-take, length-take-le}
 use Rattle.codec.specs.Bytes.{AllBytes, le, le16, le32, bytes, bytes16, put, allZero}
 use Rattle.codec.specs.Outcome.{Outcome, given, refusal, andThen}
-use Rattle.codec.proofs.CursorLaws.{le-same, le-bytes, length-bytes, put-before, put-behind, le-put, bytes-more, le-lt}
+use Rattle.codec.proofs.CursorLaws.{le-same, le-bytes, length-bytes, put-before, le-put, bytes-more, le-lt, drop-bytes}
 use Rattle.region.proofs.OutcomeLaws.{passed}
 use Rattle.page_entries.specs.Entries.{seqs, contains, entryCheck, entriesCheck}
 use Rattle.page.specs.Read.{header, page, decodePage}
@@ -39,12 +39,6 @@ module _ (s : List ℕ) (long : 96 ≤ length s) where
       ap (λ (l : List ℕ). getD l k 0) entry-put
       ∙ put-before (take 96 s) 38 (bytes16 0) zeros-fit k before
       ∙ getD-take 96 s k 0 (omega arith)
-
-  pub byte-behind : (k : ℕ) → 40 ≤ k → k < 96 → getD (storedEntry s) k 0 ≡ getD s k 0
-  byte-behind k behind inside =
-      ap (λ (l : List ℕ). getD l k 0) entry-put
-      ∙ put-behind (take 96 s) 38 (bytes16 0) zeros-fit k (omega (arith, length-bytes 2 0))
-      ∙ getD-take 96 s k 0 inside
 
   module _ (rest : List ℕ) where
     in-front : (w i : ℕ) → i + w ≤ 96 → le w (storedEntry s ++ rest) i ≡ le w (storedEntry s) i
@@ -247,9 +241,6 @@ zeros-are (x ∷ s) all = go (eqb x 0) refl all (zeros-are s)
         → _≡_ {A = List ℕ} (x ∷ s) (0 ∷ replicate (length s) 0)
     go true test all rest = ap₂ (λ (b : ℕ) (l : List ℕ). b ∷ l) (eqb-true x 0 test) (rest all)
     go false test all rest = let never : _≡_ {A = ℕ} 0 1 = cc in absurd (omega arith)
-
-drop-bytes : (k : ℕ) (s : List ℕ) → AllBytes s → AllBytes (drop k s)
-drop-bytes k s small i = rw getD-drop (small (k + i))
 
 entry-same : (s : List ℕ) → AllBytes s → 96 ≤ length s → le16 s 38 ≡ 0 → storedEntry s ≡ take 96 s
 unfolding storedEntry

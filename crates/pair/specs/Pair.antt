@@ -1,6 +1,6 @@
 -- What `decide` and the questions to its report answer (document 01, "Pair winner and payload").
 use mathlib.Core.Bool.{Bool, true, false, cond, not, _&&_}
-use Prim.Native.Nat.{ℕ, _-_}
+use Prim.Native.Nat.{_-_}
 use lib.Dec.{ltb, eqb}
 use Rattle.slot.specs.Status.{other, code, validInfo}
 use Rattle.slot.specs.declared.slot.SlotIndex.{SlotIndex}

@@ -1,6 +1,5 @@
 -- The lengths of a written header and of its parts.
 use mathlib.Core.Path.{_≡_}
-use mathlib.Core.List.{_++_}
 use Prim.Native.Nat.{ℕ}
 use lib.ListN.{length, length-append, length-replicate}
 use Rattle.codec.proofs.CursorLaws.{length-bytes}

@@ -1,6 +1,6 @@
 -- What `validate` and `header_facts` answer for any bytes (document 01, "Slot status"): the header by offsets, and the checks in their
 -- order, each with the status that it fails with.
-use mathlib.Core.Bool.{Bool, true, false, cond, not}
+use mathlib.Core.Bool.{Bool, false, cond, not}
 use mathlib.Core.List.{List, [], _∷_, _++_}
 use Prim.Native.Nat.{ℕ, _+_, _-_, _^_}
 use lib.Dec.{leb, ltb, eqb}
@@ -11,7 +11,6 @@ use Rattle.slot.specs.Status.{indexNumber}
 use Rattle.slot.specs.declared.slot.Expect.{Expect}
 use Rattle.slot.specs.declared.slot.SlotInfo.{SlotInfo}
 use Rattle.slot.specs.declared.slot.SlotStatus.{SlotStatus}
-use Rattle.slot.specs.declared.slot.NumberedHeader.{NumberedHeader}
 use Rattle.slot.specs.declared.slot.HeaderFacts.{HeaderFacts}
 use Rattle.slot.specs.declared.slot.RawHeader.{RawHeader}
 use Rattle.slot.specs.declared.slot.HeaderRead.{HeaderRead}

@@ -2,10 +2,8 @@
 use mathlib.Core.Bool.{Bool, true, false}
 use Prim.Native.Nat.{ℕ}
 use Rattle.slot.specs.declared.slot.SlotIndex.{SlotIndex}
-use Rattle.slot.specs.declared.slot.SlotInfo.{SlotInfo}
 use Rattle.slot.specs.declared.slot.SlotStatus.{SlotStatus}
 use Rattle.slot.specs.declared.slot.ValidInfo.{ValidInfo}
-use Rattle.slot.specs.declared.slot.NumberedHeader.{NumberedHeader}
 use Rattle.slot.specs.declared.slot.HeaderFacts.{HeaderFacts}
 
 -- Index: 0 A, 1 B.

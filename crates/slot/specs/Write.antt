@@ -1,8 +1,8 @@
 -- What `encode` writes (document 01, "Slot status", and its refusals 1 to 5): the same layout, as bytes one after the other.
-use mathlib.Core.Bool.{Bool, true, false, cond, not}
-use mathlib.Core.List.{List, [], _∷_, _++_}
+use mathlib.Core.Bool.{cond, not}
+use mathlib.Core.List.{List, _++_}
 use Prim.Native.Nat.{ℕ, _+_, _-_, _^_}
-use lib.Dec.{leb, ltb, eqb}
+use lib.Dec.{ltb, eqb}
 use lib.ListN.{length, replicate}
 use Rattle.codec.specs.Bytes.{bytes, bytes16, bytes32, bytes64}
 use Rattle.codec.specs.Crc32c.{crc32c}

@@ -1,15 +1,14 @@
 -- The lines that program `verdicts` prints (document 01, "Store verdict"): a line a pair, then one line for the store; or R and a number.
 -- Bytes are two lower-case hexadecimal digits each, and a newline ends every line.
-use mathlib.Core.Bool.{Bool, cond}
+use mathlib.Core.Bool.{cond}
 use mathlib.Core.List.{List, [], _∷_, _++_}
 use Prim.Native.Nat.{ℕ, zero, suc, _+_, _*_, _/_, _%_}
 use lib.Dec.{ltb, leb}
 use lib.ListN.{length, take, drop}
-use Rattle.codec.specs.Bytes.{bytes32}
+use Rattle.codec.specs.Bytes.{bytes32, flag}
 use Rattle.cases.specs.Line.{newline}
-use Rattle.verdict.specs.declared.verdict.Heal.{Heal}
 use Rattle.verdict.specs.declared.verdict.Judgement.{Judgement}
-use Rattle.slot.specs.Status.{slotNumber}
+use Rattle.verdict.specs.Verdict.{healSlot, healPair}
 use Rattle.judge_frames.specs.Frames.{verdictWidth}
 
 unfoldable pub hexDigit : ℕ → ℕ
@@ -35,18 +34,6 @@ lastLine = 17
 abbrev pub verdictLines : ℕ → List ℕ → List ℕ
 verdictLines zero s = []
 verdictLines (suc n) s = line (take verdictWidth s) ++ verdictLines n (drop verdictWidth s)
-
--- The slot to heal, as a winner is numbered, and its pair.
-abbrev pub healSlot : Heal → ℕ
-healSlot Heal.Nothing = 0
-healSlot (Heal.Slot pair index) = slotNumber index
-
-abbrev pub healPair : Heal → ℕ
-healPair Heal.Nothing = 0
-healPair (Heal.Slot pair index) = pair
-
-abbrev pub flag : Bool → ℕ
-flag b = cond b 1 0
 
 -- Heal slot, heal pair, writable, clean, refused.
 unfoldable pub judgementBytes : Judgement → List ℕ

@@ -1,4 +1,5 @@
 // The lines that program `verdicts` prints: a line a pair, then one line for the store; or the line of a refusal.
+use codec::bytes::flag;
 use verdict::verdict::Heal;
 use verdict::verdict::Judgement;
 ghost use mathlib.Core.Path.{_≡_};
@@ -6,7 +7,8 @@ ghost use Prim.Native.Nat.{_+_, _*_, _≤_, _<_};
 ghost use lib.ListN.{length, getD};
 ghost use Rattle.codec.specs.Bytes.{put, putWhole};
 ghost use Rattle.judge_frames.specs.Frames.{verdictWidth};
-ghost use Rattle.text_write.specs.Write.{hexDigit, line, refusalLine, verdictLine, verdictLines, healSlot, healPair, flag, judgementBytes, judgementText, written};
+ghost use Rattle.verdict.specs.Verdict.{healSlot, healPair};
+ghost use Rattle.text_write.specs.Write.{hexDigit, line, refusalLine, verdictLine, verdictLines, judgementBytes, judgementText, written};
 
 // The width of a verdict, of its line and of the last line.
 pub const VERDICT: usize = 4;
@@ -81,12 +83,6 @@ fn heal_pair(heal: Heal) -> usize
         Heal::Nothing => 0,
         Heal::Slot(pair, _) => pair,
     }
-}
-
-fn flag(b: bool) -> u8
-    ensures { λ r. ⌜ r ≡ flag b ⌝ }
-{
-    if b { 1 } else { 0 }
 }
 
 fn judgement_bytes(j: Judgement) -> [u8; 8]

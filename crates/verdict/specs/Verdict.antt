@@ -7,6 +7,7 @@ use Rattle.slot.specs.Status.{slotNumber, other}
 use Rattle.candidate.specs.declared.pairs.MetaSeq.{MetaSeq}
 use Rattle.candidate.specs.declared.pairs.Opposite.{Opposite}
 use Rattle.candidate.specs.declared.pairs.PairCase.{PairCase}
+use Rattle.verdict.specs.declared.verdict.Heal.{Heal}
 use Rattle.verdict.specs.declared.verdict.SlotVerdict.{SlotVerdict}
 use Rattle.verdict.specs.declared.verdict.Standing.{Standing}
 use Rattle.verdict.specs.declared.verdict.WinnerSlot.{WinnerSlot}
@@ -102,6 +103,15 @@ standingNumber Standing.Refused = 3
 abbrev pub winnerNumber : WinnerSlot → ℕ
 winnerNumber WinnerSlot.Nothing = 0
 winnerNumber (WinnerSlot.Slot index) = slotNumber index
+
+-- The slot to heal, numbered as a winner, and its pair, 0 without a heal.
+abbrev pub healSlot : Heal → ℕ
+healSlot Heal.Nothing = 0
+healSlot (Heal.Slot pair index) = slotNumber index
+
+abbrev pub healPair : Heal → ℕ
+healPair Heal.Nothing = 0
+healPair (Heal.Slot pair index) = pair
 
 -- 0 Winner, 1 Nothing, 2 OlderDamaged, 3 InFlight, 4 Damage.
 abbrev pub slotVerdictNumber : SlotVerdict → ℕ

@@ -9,9 +9,10 @@ use borrow.Author.Tests.{eq-eqb, ne-eqb, le-ltb, lt-leb, eqb-true, eqb-false}
 use lib.Dec.{lit≤, eqb}
 use lib.ListN.{length, getD, take, length-append}
 use lib.Seq.{take-at, take-all, take-take}
-use Rattle.codec.specs.Bytes.{AllBytes, le, bytes, bytes16, bytes32}
+use Rattle.codec.specs.Bytes.{AllBytes, le, bytes, bytes16, bytes32, flag}
 use Rattle.codec.specs.Outcome.{given}
 use Rattle.codec.proofs.CursorLaws.{le-byte, le-bytes, le-shift, bytes-more, take-bytes}
+use Rattle.codec.proofs.RunLaws.{flag-small, flag-read}
 use Rattle.region.specs.Block.{blockSize, entriesPerPage}
 use Rattle.region.proofs.BlockLaws.{block-high}
 use Rattle.volume_base.specs.Base.{decodeBase, baseBytes}
@@ -32,10 +33,10 @@ length-volume v = simp (length-append, length-base, length-tail)
 regroup : (a b1 b2 b3 b4 b5 b6 : List ℕ) → a ++ (b1 ++ b2 ++ b3 ++ b4 ++ b5 ++ b6) ≡ a ++ b1 ++ b2 ++ b3 ++ b4 ++ b5 ++ b6
 regroup a b1 b2 b3 b4 b5 b6 = simp append-assoc
 
-mark-back : (n : ℕ) → n ≤ 1 → cond (eqb n 1) 1 0 ≡ n
+mark-back : (n : ℕ) → n ≤ 1 → flag (eqb n 1) ≡ n
 mark-back n small = go (eqb n 1) refl
   where
-    go : (one : Bool) → eqb n 1 ≡ one → cond one 1 0 ≡ n
+    go : (one : Bool) → eqb n 1 ≡ one → flag one ≡ n
     go true test = sym (eqb-true _ _ test)
     go false test = let other : n ≡ 1 → ⊥ = eqb-false _ _ test in omega arith
 
@@ -77,14 +78,6 @@ volume-acceptable s {v} small decodes =
 
 -- ---- what is acceptable is decoded from its bytes
 
-mark-small : (clean : Bool) → cond clean 1 0 ≤ 1
-mark-small true = lit≤ tt
-mark-small false = lit≤ tt
-
-mark-read : (clean : Bool) → eqb (cond clean 1 0) 1 ≡ clean
-mark-read true = refl
-mark-read false = refl
-
 -- A table slot of 64 KiB holds 681 entries.
 entries-small : (log2 : ℕ) → entriesPerPage log2 ≤ 681
 unfolding entriesPerPage
@@ -109,7 +102,7 @@ module _ {v : VolumeMeta2} (ok : Acceptable v) where
 
   at-54 : getD whole 54 0 ≡ cond (v .«clean_close») 1 0
   unfolding tailBytes le bytes
-  at-54 = sym (le-byte whole 54) ∙ behind 1 6 ∙ le-bytes 1 (cond (v .«clean_close») 1 0) [] (omega (arith, mark-small (v .«clean_close»)))
+  at-54 = sym (le-byte whole 54) ∙ behind 1 6 ∙ le-bytes 1 (flag (v .«clean_close»)) [] (omega (arith, flag-small (v .«clean_close»)))
 
   at-55 : getD whole 55 0 ≡ 0
   unfolding tailBytes le bytes
@@ -134,11 +127,11 @@ module _ {v : VolumeMeta2} (ok : Acceptable v) where
         ne-eqb (v .«table_pages») 0 (λ none. omega (arith, ok .pages-low)),
         lt-leb _ _ (ok .pages-high),
         eq-eqb _ _ (ok .entries),
-        le-ltb _ _ (mark-small (v .«clean_close»)),
+        le-ltb _ _ (flag-small (v .«clean_close»)),
       )
 
   record-read : record2 (v .base) (storedTail v) ≡ v
-  record-read = simp (mark-read (v .«clean_close»))
+  record-read = simp (flag-read (v .«clean_close»))
 
   no-features : le 8 whole 32 ≡ 0
   unfolding volumeBytes

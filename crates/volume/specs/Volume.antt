@@ -6,7 +6,7 @@ use mathlib.Core.List.{List, _++_}
 use Prim.Native.Nat.{ℕ, _+_, _*_, _^_, _≤_, _<_}
 use lib.Dec.{leb, ltb, eqb}
 use lib.ListN.{length, take}
-use Rattle.codec.specs.Bytes.{le32, le64}
+use Rattle.codec.specs.Bytes.{le32, le64, flag}
 use Rattle.codec.specs.Outcome.{Outcome, given, refusal, andThen}
 use Rattle.region.specs.Error.{errorNumber}
 use Rattle.region.specs.Block.{entriesPerPage}
@@ -58,7 +58,7 @@ storedTail v =
     record {
       «table_pages» = v .«table_pages»;
       «entries_per_page» = v .«entries_per_page»;
-      «clean_close» = cond (v .«clean_close») 1 0;
+      «clean_close» = flag (v .«clean_close»);
       reserved0 = 0;
       flags = v .flags;
       reserved1 = 0;

@@ -9,6 +9,7 @@
 // | 55 | 1 | | zero |
 // | 56 | 4 | flags | none defined |
 // | 60 | 4 | | zero |
+use codec::bytes::flag;
 use codec::codec::ReadU64;
 use codec::codec::Reader;
 use region::meta::Check;
@@ -23,7 +24,6 @@ use volume_tail::RawTailRead;
 use volume_tail::read_tail;
 use volume_tail::write_tail;
 ghost use mathlib.Core.Path.{_≡_};
-ghost use mathlib.Core.Bool.{cond};
 ghost use Prim.Native.Nat.{_≤_};
 ghost use Rattle.codec.specs.Bytes.{putWhole};
 ghost use Rattle.region.specs.Error.{checkOutcome, encodedOutcome, fitted};
@@ -68,7 +68,7 @@ impl VolumeMeta2 {
         let MetaEncoded::Length(_) = base.encode(&mut out[..48]) else {
             return MetaEncoded::Refused(MetaError::Length);
         };
-        let clean_close = mark(self.clean_close);
+        let clean_close = flag(self.clean_close);
         let tail = RawTail {
             table_pages: self.table_pages,
             entries_per_page: self.entries_per_page,
@@ -183,14 +183,4 @@ fn with_base(base: VolumeMeta, tail: RawTail) -> VolumeMeta2Read
         clean_close: clean_close == 1,
         flags: tail.flags,
     })
-}
-
-// The clean mark as it is stored.
-fn mark(clean_close: bool) -> u8
-    ensures { λ r. ⌜ r ≡ cond «clean_close» 1 0 ⌝ }
-{
-    if clean_close {
-        return 1;
-    }
-    0
 }

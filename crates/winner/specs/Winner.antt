@@ -1,9 +1,9 @@
 -- The winner's payload (document 01, "Pair winner and payload"): a part of slot A's or slot B's bytes, and the report as numbers.
-use mathlib.Core.Bool.{Bool, true, false}
 use mathlib.Core.List.{List, [], _∷_}
 use Prim.Native.Nat.{ℕ}
 use lib.ListN.{length, replicate}
 use denote.Ref.{RefT, now}
+use Rattle.codec.specs.Bytes.{flag}
 use Rattle.codec.specs.Place.{Part}
 use Rattle.slot.specs.Status.{slotNumber, code}
 use Rattle.slot.specs.Read.{validate, payloadStart, payloadLength, payload}
@@ -71,10 +71,6 @@ winnerSlot Winner.Lost = 0
 winnerSlot Winner.Refused = 0
 winnerSlot Winner.Empty = 0
 winnerSlot Winner.Fork = 0
-
-abbrev pub flag : Bool → ℕ
-flag true = 1
-flag false = 0
 
 -- The codes of A and of B, the winner's standing and slot (0 none, 1 A, 2 B), gap and chain break.
 unfoldable pub reportNumbers : PairReport → List ℕ

@@ -1,4 +1,5 @@
 // Layer 2: the winner's payload, as a part of slot A's or slot B's bytes, and the report beside it as numbers.
+use codec::bytes::flag;
 use pair::pair::PairReport;
 use pair::pair::Winner;
 use pair::pair::WinnerInfo;
@@ -7,7 +8,7 @@ use slot::slot::SlotIndex;
 use slot::slot::SlotStatus;
 ghost use mathlib.Core.Path.{_≡_};
 ghost use Rattle.pair.specs.Pair.{winnerInfo};
-ghost use Rattle.winner.specs.Winner.{readPair, WinnerPart, statusValues, winnerNumber, winnerSlot, flag, reportNumbers};
+ghost use Rattle.winner.specs.Winner.{readPair, WinnerPart, statusValues, winnerNumber, winnerSlot, reportNumbers};
 
 // Validates both slots of a pair and returns the winner's payload, a part of its slot's own bytes; without a winner the part is empty,
 // at the start of A. The report is written beside it: the values of slot A's status, those of slot B's, and the codes of both, the
@@ -124,14 +125,4 @@ pub fn winner_slot(winner: Winner) -> u8
         Winner::Empty => 0,
         Winner::Fork => 0,
     }
-}
-
-// 1 for yes.
-pub fn flag(set: bool) -> u8
-    ensures { λ r. ⌜ r ≡ flag set ⌝ }
-{
-    if set {
-        return 1;
-    }
-    0
 }

@@ -37,7 +37,6 @@ use denote.Ref.{RefT}
 use denote.Slice.{sliceTy, sliceVal, ShrSlice, MutSlice, Room}
 use denote.Lend.{Held, lends-slice, lends-shr-slice, slice-back}
 use denote.Index.{row, whole-out, whole-in}
-use denote.Signature.{plain}
 use denote.Builtin.{usize, bool}
 use denote.Steps.{only, nothing, owned, peeks, heard}
 use denote.Struct.Laws as LL

@@ -1,7 +1,9 @@
 -- `judgement_bytes` meets its contract: each byte is that of the definition.
 use borrow.Author.Needs.{needs}
 use Rattle.codec.proofs.CursorLaws.{bytes-digits}
-use Rattle.text_write.specs.Write.{judgementBytes, healPair, flag}
+use Rattle.codec.specs.Bytes.{flag}
+use Rattle.verdict.specs.Verdict.{healPair}
+use Rattle.text_write.specs.Write.{judgementBytes}
 use Rattle.text_write.proofs.judgement_bytes.Statement.{statement}
 use Rattle.text_write.proofs.judgement_bytes.Tie as tie
 

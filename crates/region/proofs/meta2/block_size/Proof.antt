@@ -1,7 +1,6 @@
 -- `block_size` meets its contract: a shift by a log2 in range is a power of two.
 use mathlib.Core.Path.{ap, _∙_}
 use Prim.Native.Nat.{ℕ, _^_}
-use native.Mathlib.Omega.{arith}
 use Rattle.region.specs.Block.{blockSize}
 use Rattle.region.proofs.BlockLaws.{shift-power}
 use borrow.Author.Needs.{needs}

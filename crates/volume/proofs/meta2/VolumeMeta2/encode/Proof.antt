@@ -72,8 +72,8 @@ returns-2 c =
     let size = lent called in
     absurd (has-room 48 (take 48 (old called)) (omega arith) (sym (called .encode .ensures .0) ∙ ap encodedOutcome (c .enum-told2 .given .1)))
 
-mark-requires : tie.Need-mark-requires
-mark-requires c κs = search needs
+flag-requires : tie.Need-flag-requires
+flag-requires c κs = search needs
 
 sub-write-tail : tie.Need-sub-write-tail
 sub-write-tail c = search needs
@@ -98,7 +98,7 @@ tail-is c =
     let base : length (called .encode .last .1 .0) ≡ 48 = ap length (base-is called) ∙ length-base _ in
     let lent : length (take 16 (drop 48 (called .encode .last .1 .0 ++ drop 48 (old called)))) ≡ 16 =
     simp (length-take, length-drop, length-append, base) (omega (arith, room called)) in
-    rw (c .before .before .mark .ensures) at (c .write-tail .ensures) ∙ put-over _ _ (lent ∙ sym (length-tail _))
+    rw (c .before .before .flag .ensures) at (c .write-tail .ensures) ∙ put-over _ _ (lent ∙ sym (length-tail _))
 
 returns-3 : tie.Need-returns-3
 unfolding volumeBytes
@@ -124,7 +124,7 @@ encode-spec =
     enum-told-2
     same-length
     returns-2
-    mark-requires
+    flag-requires
     sub-write-tail
     part-write-tail-start
     part-write-tail-end
