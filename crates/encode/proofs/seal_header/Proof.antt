@@ -5,7 +5,7 @@ use Prim.Native.Nat.{ℕ}
 use native.Mathlib.Omega.{arith}
 use lib.ListN.{length}
 use Rattle.codec.specs.Bytes.{bytes32, put}
-use Rattle.codec.specs.Crc32c.{crc32c}
+use Rattle.crc.specs.Crc32c.{crc32c}
 use Rattle.codec.specs.Cursor.{writtenAnswer}
 use Rattle.codec.proofs.CursorLaws.{answer-refused, put-whole, put-all, length-bytes}
 use Rattle.slot.specs.Write.{headerBytes}
