@@ -6,7 +6,7 @@ use lib.ListN.{length, drop}
 use borrow.Author.Tests.{le-leb, lt-leb}
 use Rattle.codec.specs.Bytes.{put}
 use Rattle.verdict_text.specs.declared.Responded.{Responded}
-use Rattle.text_read.specs.Read.{markOf, markLine, framesIn}
+use Rattle.verdict_text.specs.Read.{markOf, markLine, framesIn}
 use Rattle.text_write.specs.Write.{refusalLine}
 use Rattle.verdict_text.specs.Text.{framesText, responseText}
 use Rattle.verdict_text.specs.Respond.{responseRoom, responded, respondedOut}

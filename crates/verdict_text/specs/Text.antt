@@ -8,7 +8,7 @@ use lib.ListN.{length, drop}
 use Rattle.verdict.specs.Verdict.{verdictBytes}
 use Rattle.verdict.specs.Judge.{verdicts, judgeRow}
 use Rattle.judge_frames.specs.Frames.{verdictWidth, pairs, row, refusal}
-use Rattle.text_read.specs.Read.{markOf, markLine, framesIn}
+use Rattle.verdict_text.specs.Read.{markOf, markLine, framesIn}
 use Rattle.text_write.specs.Write.{judgementText, refusalLine}
 
 -- What `judge` refuses of frames that have room for their verdicts.

@@ -7,8 +7,8 @@ use borrow.Author.Tests.{lt-leb}
 use denote.Ref.{now}
 use Rattle.verdict_text.specs.Respond.{responded, respondedOut}
 use Rattle.codec.proofs.CursorLaws.{part-rest}
-use Rattle.text_read.specs.Read.{markOf}
-use Rattle.text_read.proofs.ReadLaws.{mark-length}
+use Rattle.verdict_text.specs.Read.{markOf}
+use Rattle.verdict_text.proofs.ReadLaws.{mark-length}
 use Rattle.text_write.proofs.WriteLaws.{refusal-written}
 use Rattle.verdict_text.proofs.ResponseLaws.{text-long, text-unmarked, text-marked, response-done}
 use Rattle.verdict_text.proofs.respond.Statement.{statement}

@@ -13,10 +13,10 @@ use Rattle.codec.proofs.CursorLaws.{part-rest, put-whole, put-more, put-nil}
 use Rattle.cases.proofs.HexLaws.{known-bytes, no-bytes}
 use Rattle.cases.specs.Hex.{isSome, bytesOf, decodeOut}
 use Rattle.judge_frames.specs.Frames.{frameWidth}
-use Rattle.text_read.specs.Read.{frameLine, frameOf, frameLines, lineCount, goodFrames}
-use Rattle.text_read.proofs.ReadLaws.{frame-size, framesFrom, goodFrom, frames-start, good-start, frames-step, good-step, good-end, frames-end, frames-more, joined-some, lent-kept, lent-put, read-short, read-bad, read-done}
-use Rattle.text_read.proofs.read_frames.Statement.{statement}
-use Rattle.text_read.proofs.read_frames.Tie as tie
+use Rattle.verdict_text.specs.Read.{frameLine, frameOf, frameLines, lineCount, goodFrames}
+use Rattle.verdict_text.proofs.ReadLaws.{frame-size, framesFrom, goodFrom, frames-start, good-start, frames-step, good-step, good-end, frames-end, frames-more, joined-some, lent-kept, lent-put, read-short, read-bad, read-done}
+use Rattle.verdict_text.proofs.read_frames.Statement.{statement}
+use Rattle.verdict_text.proofs.read_frames.Tie as tie
 
 abbrev Inv-loop : tie.InvT-loop
 Inv-loop text out₀ n i₀ out i = (i ≤ n) × (length out ≡ length out₀) × (isSome (framesFrom n text i) ≡ isSome (frameLines n text)) × (put out (i * frameWidth) (goodFrom n text i) ≡ put out₀ 0 (goodFrames n text))

@@ -18,7 +18,7 @@ use Rattle.cases.specs.Line.{newline}
 use Rattle.cases.specs.declared.hex.Decoded.{Decoded}
 use Rattle.cases.proofs.HexLaws.{known-length, known-bytes, no-bytes, answer-none, answer-full, answer-done}
 use Rattle.judge_frames.specs.Frames.{frameWidth}
-use Rattle.text_read.specs.Read.{markOf, frameLine, frameOf, joined, frameLines, lineCount, framesIn, followed, goodFrames, framesOut}
+use Rattle.verdict_text.specs.Read.{markOf, frameLine, frameOf, joined, frameLines, lineCount, framesIn, followed, goodFrames, framesOut}
 
 -- ---- a line
 

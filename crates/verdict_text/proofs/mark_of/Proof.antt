@@ -1,10 +1,10 @@
 -- `mark_of` meets its contract: its tests are those of the definition, and a text of less than a line has no newline at its third place.
 use borrow.Author.Needs.{needs}
 use borrow.Author.Tests.{eq-eqb, ne-eqb}
-use Rattle.text_read.specs.Read.{markOf}
-use Rattle.text_read.proofs.ReadLaws.{mark-short}
-use Rattle.text_read.proofs.mark_of.Statement.{statement}
-use Rattle.text_read.proofs.mark_of.Tie as tie
+use Rattle.verdict_text.specs.Read.{markOf}
+use Rattle.verdict_text.proofs.ReadLaws.{mark-short}
+use Rattle.verdict_text.proofs.mark_of.Statement.{statement}
+use Rattle.verdict_text.proofs.mark_of.Tie as tie
 
 returns : tie.Need-returns
 returns c = mark-short _ (c .if1 .taken)

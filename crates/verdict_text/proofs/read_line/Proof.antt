@@ -8,9 +8,9 @@ use borrow.Author.Needs.{needs}
 use denote.Ref.{now}
 use Rattle.cases.specs.Hex.{decodeOut}
 use Rattle.judge_frames.specs.Frames.{frameWidth}
-use Rattle.text_read.proofs.ReadLaws.{frame-here, frame-none, frame-size, answer-bytes, answer-bad}
-use Rattle.text_read.proofs.read_line.Statement.{statement}
-use Rattle.text_read.proofs.read_line.Tie as tie
+use Rattle.verdict_text.proofs.ReadLaws.{frame-here, frame-none, frame-size, answer-bytes, answer-bad}
+use Rattle.verdict_text.proofs.read_line.Statement.{statement}
+use Rattle.verdict_text.proofs.read_line.Tie as tie
 
 mul-if1 : tie.Need-mul-if1
 mul-if1 c = search needs
