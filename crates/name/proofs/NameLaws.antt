@@ -9,9 +9,8 @@ use borrow.Author.Tests.{eqb-true, eqb-false, ltb-false, not-false}
 use lib.Dec.{ltb, eqb}
 use lib.ListN.{length, take, drop, replicate, length-drop, length-replicate, replicate-append-replicate, take-append-drop}
 use lib.Seq.{length-take-le, take-at, drop-at}
-use Rattle.codec.specs.Bytes.{allZero, put, putWhole}
+use Rattle.codec.specs.Bytes.{allZero, put}
 use Rattle.codec.specs.Outcome.{given, refusal}
-use Rattle.codec.proofs.CursorLaws.{put-whole}
 use Rattle.name.specs.Utf8.{utf8}
 use Rattle.name.specs.Name.{zeroAt, nameOk, nameRefused, nameCheck, noName, nameOf, paddedCheck, paddedName}
 use Rattle.name.specs.declared.meta.RegionName.{RegionName}
@@ -99,12 +98,10 @@ name-accepted s is = go (nameOk s) is
     go false is = let never : _≡_ {A = ℕ} 0 1 = cc in absurd (omega arith)
 
 -- A name copied over 24 zeros.
-pub name-copied : (s : List ℕ) (pos : ℕ) → pos ≡ 0 → length s ≤ 24 → putWhole (replicate 24 0) pos s ≡ s ++ replicate (24 - length s) 0
+pub name-copied : (s : List ℕ) → length s ≤ 24 → put (replicate 24 0) 0 s ≡ s ++ replicate (24 - length s) 0
 unfolding put
-name-copied s pos start short =
-    ap (λ (p : ℕ). putWhole (replicate 24 0) p s) start
-    ∙ put-whole (replicate 24 0) 0 s (omega arith)
-    ∙ ap (λ (l : List ℕ). s ++ l) (drop-zeros (0 + length s) 24 (omega arith))
+name-copied s short =
+    ap (λ (l : List ℕ). s ++ l) (drop-zeros (0 + length s) 24 (omega arith))
     ∙ ap (λ (n : ℕ). s ++ replicate (24 - n) 0) (zero-add (length s))
 
 -- ---- stored names

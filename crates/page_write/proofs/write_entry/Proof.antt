@@ -1,102 +1,48 @@
 -- `write_entry` meets its contract: the entry's bytes are put over the whole of its place, then zeros at 38. A write is refused only where
 -- its bytes do not fit, and both do.
-use mathlib.Core.Path.{_≡_, refl, ap, _∙_}
+use mathlib.Core.Path.{_≡_, refl, sym, ap, _∙_}
 use mathlib.Core.List.{List}
-use Prim.Native.Nat.{ℕ}
-use native.Mathlib.Omega.{arith}
-use lib.ListN.{length}
-use Rattle.codec.specs.Bytes.{bytes16, put, putWhole}
-use Rattle.codec.specs.Cursor.{writtenAnswer}
-use Rattle.codec.proofs.CursorLaws.{answer-refused, length-bytes, put-all, put-whole}
-use Rattle.page_write.proofs.WriteLaws.{entry-zeros}
+use Prim.Native.Nat.{ℕ, _≤_}
+use native.Mathlib.Nat.{le-of-eq}
 use borrow.Author.Needs.{needs}
+use lib.Dec.{lit≤}
+use lib.ListN.{length}
+use Rattle.codec.specs.Bytes.{bytes16, put}
+use Rattle.codec.proofs.Steps.{Writes, over-all, over-from, writes, writes-run, never, over-whole, same-long}
+use Rattle.page_write.proofs.WriteLaws.{entry-zeros}
 use Rattle.page_write.proofs.write_entry.Statement.{statement}
 use Rattle.page_write.proofs.write_entry.Tie as tie
 
-new-requires : tie.Need-new-requires
-new-requires c κs = search needs
+module _ (c : tie.Start) where
+  place-length : length (c .args .place .now) ≡ 96
+  place-length = c .pre .0
 
-bytes-requires : tie.Need-bytes-requires
-bytes-requires c κs = search needs
+  entry-length : length (c .args .entry .now) ≡ 96
+  entry-length = c .pre .1
 
-enum-told : tie.Need-enum-told
-enum-told c = search needs
+-- ---- the row after each of the two writes: each begins a row of its own
 
-enum-told-2 : tie.Need-enum-told-2
-enum-told-2 c = search needs
+unfoldable entry : (c : tie.After-bytes) → Writes (c .bytes .result) (c .bytes .last .1 .0)
+entry c = writes-run 96 (over-all 96 (search) (place-length (search))) refl _ (entry-length (search)) (rw (entry-length (search)) at (c .bytes .ensures))
 
-same-length : tie.Need-same-length
-same-length c = search needs
+-- The place, once the entry is there.
+room : (c : tie.After-enum-told) → 96 ≤ length (c .before .before .before .before .bytes .last .1 .0)
+unfolding entry
+room c = le-of-eq (sym (same-long (entry (search)) (c .enum-told .given .1) ∙ entry (search) .exact))
 
-returns : tie.Need-returns
-returns c =
-    let write = c .before .before .before .before in
-    let start = write .before .before .before .before .before in
-    let past = answer-refused 7 (λ (p : ℕ). tt) _ 0 _ (write .bytes .ensures .0) (write .before .before .new .ensures) (ap writtenAnswer (c .enum-told2 .given .1)) in
-    absurd (omega (arith, start .pre))
-
--- The first write leaves the entry in its place.
-abbrev start : tie.After-enum-told → tie.Start
-start c = c .before .before .before .before .before .before .before .before .before
-
-copied : (c : tie.After-enum-told) → c .before .before .before .before .bytes .last .1 .0 ≡ start c .args .entry .now
-copied c =
-    let write = c .before .before .before .before in
-    let old : List ℕ = start c .args .place .now in
-    let entry : List ℕ = start c .args .entry .now in
-    let same : length entry ≡ length old = omega (arith, start c .pre) in
-    write .bytes .ensures .1
-    ∙ ap (λ (pos : ℕ). putWhole old pos entry) (write .before .before .new .ensures)
-    ∙ put-whole old 0 entry (omega arith)
-    ∙ put-all old entry same
-
-copied-length : (c : tie.After-enum-told) → length (c .before .before .before .before .bytes .last .1 .0) ≡ 96
-copied-length c = ap length (copied c) ∙ start c .pre .1
-
-u16-requires : tie.Need-u16-requires
-u16-requires c κs = search needs
-
-enum-told-3 : tie.Need-enum-told-3
-enum-told-3 c = search needs
-
-enum-told-4 : tie.Need-enum-told-4
-enum-told-4 c = search needs
-
-same-length-2 : tie.Need-same-length-2
-same-length-2 c = search needs
-
-returns-2 : tie.Need-returns-2
-returns-2 c =
-    let write = c .before .before .before .before in
-    let past = answer-refused 7 (λ (p : ℕ). tt) _ 38 2 (write .u16 .ensures .0) refl (ap writtenAnswer (c .enum-told4 .given .1)) in
-    absurd (omega (arith, copied-length (write .before .before)))
-
-same-length-3 : tie.Need-same-length-3
-same-length-3 c = search needs
-
-returns-3 : tie.Need-returns-3
-returns-3 c =
-    let write = c .before .before .before .before in
-    let before = write .before .before in
-    write .u16 .ensures .1
-    ∙ put-whole _ 38 (bytes16 0) (omega (arith, length-bytes 2 0, copied-length before))
-    ∙ ap (λ (l : List ℕ). put l 38 (bytes16 0)) (copied before)
-    ∙ entry-zeros _ (start before .pre .1)
+unfoldable reserved : (c : tie.After-u16) → Writes (c .u16 .result) (c .u16 .last .1 .0)
+reserved c = writes 2 (over-from 38 96 refl (lit≤ tt) (room (search))) refl _ (c .u16 .ensures)
 
 pub write-entry-spec : {M : Type 1} → statement M
+unfolding entry reserved
 write-entry-spec =
     tie.close
     (tie.spec
-    new-requires
-    bytes-requires
-    enum-told
-    enum-told-2
-    same-length
-    returns
-    u16-requires
-    enum-told-3
-    enum-told-4
-    same-length-2
-    returns-2
-    same-length-3
-    returns-3)
+    (λ c κs. tt)
+    (λ c κs. tt) (λ c. search) (λ c. search) (λ c. never (entry (search)) (lit≤ tt) (search)) (λ c. never (entry (search)) (lit≤ tt) (search))
+    (λ c κs. tt) (λ c. search) (λ c. search) (λ c. never (reserved (search)) (lit≤ tt) (search)) (λ c. never (reserved (search)) (lit≤ tt) (search))
+    (λ c. search needs)
+    (λ c. let written : tie.After-enum-told = search in
+    reserved (search) .stands (c .enum-told3 .given .1) .is
+    ∙ ap (λ (l : List ℕ). put l 38 (bytes16 0)) (over-whole (entry (search)) (written .enum-told .given .1) (lit≤ tt))
+    ∙ entry-zeros _ (entry-length (search))))

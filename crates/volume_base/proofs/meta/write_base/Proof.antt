@@ -1,379 +1,54 @@
--- `write_base` meets its contract: nine writes, each where the one before ended, put the fields' bytes one behind the other over the whole
+-- `write_base` meets its contract: nine writes, each where the one before ended, put the fields' bytes one after the other over the whole
 -- of the base. A write is refused only where its bytes do not fit, and all 48 do.
-use mathlib.Core.Path.{refl, sym, ap, _∙_}
-use mathlib.Core.List.{List, _++_}
-use Prim.Native.Nat.{ℕ, _≤_}
-use native.Mathlib.Omega.{arith}
+use mathlib.Core.Path.{refl}
 use lib.Dec.{lit≤}
-use lib.ListN.{length, replicate}
-use Rattle.codec.specs.Bytes.{bytes, bytes16, bytes32, bytes64}
-use Rattle.codec.specs.Cursor.{writtenAnswer}
-use Rattle.codec.proofs.CursorLaws.{Row, row-none, row-more, row-open, row-length, length-bytes, put-all}
+use Rattle.codec.proofs.Steps.{Writes, over-all, writes, writes-run, never, over-whole, same-long}
 use Rattle.volume_base.specs.Base.{baseBytes}
-use borrow.Author.Needs.{needs}
 use Rattle.volume_base.proofs.meta.write_base.Statement.{statement}
 use Rattle.volume_base.proofs.meta.write_base.Tie as tie
 
-abbrev entry : tie.After-new → tie.Start
-entry c = c .before .before
+-- ---- the row after each write
 
--- The bytes of each field behind those of the fields before it: the first n bytes of the base.
-module _ (c : tie.Start) where
-  abbrev first-1 : List ℕ
-  first-1 = bytes 1 (c .args .v .«log2_block_size»)
+unfoldable log2-block-size : (c : tie.After-u8) → Writes (c .u8 .result) (c .u8 .last .1 .0)
+log2-block-size c = writes 1 (over-all 48 (search) (search)) refl _ (c .u8 .ensures)
 
-  abbrev first-2 : List ℕ
-  first-2 = first-1 ++ bytes 1 (c .args .v .«log2_table_slot_size»)
+unfoldable log2-table-slot-size : (c : tie.After-u82) → Writes (c .u82 .result) (c .u82 .last .1 .0)
+log2-table-slot-size c = writes 1 (log2-block-size (search)) (search) _ (c .u82 .ensures)
 
-  abbrev first-4 : List ℕ
-  first-4 = first-2 ++ bytes16 (c .args .v .«device_index»)
+unfoldable device-index : (c : tie.After-u16) → Writes (c .u16 .result) (c .u16 .last .1 .0)
+device-index c = writes 2 (log2-table-slot-size (search)) (search) _ (c .u16 .ensures)
 
-  abbrev first-8 : List ℕ
-  first-8 = first-4 ++ bytes32 0
+unfoldable reserved0 : (c : tie.After-u32) → Writes (c .u32 .result) (c .u32 .last .1 .0)
+reserved0 c = writes 4 (device-index (search)) (search) _ (c .u32 .ensures)
 
-  abbrev first-16 : List ℕ
-  first-16 = first-8 ++ bytes64 (c .args .v .«owner_generation»)
+unfoldable owner-generation : (c : tie.After-u64) → Writes (c .u64 .result) (c .u64 .last .1 .0)
+owner-generation c = writes 8 (reserved0 (search)) (search) _ (c .u64 .ensures)
 
-  abbrev first-24 : List ℕ
-  first-24 = first-16 ++ bytes64 (c .args .v .«table_offset»)
+unfoldable table-offset : (c : tie.After-u642) → Writes (c .u642 .result) (c .u642 .last .1 .0)
+table-offset c = writes 8 (owner-generation (search)) (search) _ (c .u642 .ensures)
 
-  abbrev first-32 : List ℕ
-  first-32 = first-24 ++ bytes64 (c .args .v .«created_unix_s»)
+unfoldable created-unix-s : (c : tie.After-u643) → Writes (c .u643 .result) (c .u643 .last .1 .0)
+created-unix-s c = writes 8 (table-offset (search)) (search) _ (c .u643 .ensures)
 
-  abbrev first-40 : List ℕ
-  first-40 = first-32 ++ bytes64 (c .args .v .features)
+unfoldable features : (c : tie.After-u644) → Writes (c .u644 .result) (c .u644 .last .1 .0)
+features c = writes 8 (created-unix-s (search)) (search) _ (c .u644 .ensures)
 
-  abbrev first-48 : List ℕ
-  first-48 = first-40 ++ replicate 8 0
-
-  abbrev old : List ℕ
-  old = c .args .out .now
-
-  fits : (n : ℕ) → n ≤ 48 → n ≤ length old
-  fits n inside = omega (arith, c .pre)
-
--- ---- the row of writes, where the first n bytes are written; and that the write at n is not refused
-
-abbrev at-1 : tie.After-known-told → tie.After-new
-at-1 c = c .before .before .before .before .before .before .before
-
-row-1 : (c : tie.After-known-told) → Row (old (entry (at-1 c))) (c .before .before .before .before .before .u8 .last .1 .0) (c .before .w .given .0 .0 .pos) (first-1 (entry (at-1 c))) 1
-row-1 c =
-    row-more (row-none (at-1 c .new .ensures)) 1 (fits (entry (at-1 c)) 1 (lit≤ tt)) (c .before .before .before .before .before .u8 .ensures .0) _ (length-bytes 1 _)
-    (c .before .before .before .before .before .u8 .ensures .1)
-    (ap writtenAnswer (c .before .w .given .1))
-
-refused-0 : tie.After-enum-told → ⊥
-refused-0 c =
-    row-open (row-none (c .before .before .before .before .before .before .new .ensures)) 1 (fits (entry (c .before .before .before .before .before .before)) 1 (lit≤ tt)) (c .before .before .before .before .u8 .ensures .0)
-    (ap writtenAnswer (c .enum-told .given .1))
-
-abbrev at-2 : tie.After-known-told2 → tie.After-new
-at-2 c = at-1 (c .before .before .before .before .before .before .before)
-
-row-2 : (c : tie.After-known-told2) → Row (old (entry (at-2 c))) (c .before .before .before .before .before .u82 .last .1 .0) (c .before .w2 .given .0 .0 .pos) (first-2 (entry (at-2 c))) 2
-row-2 c =
-    row-more (row-1 (c .before .before .before .before .before .before .before)) 1 (fits (entry (at-2 c)) 2 (lit≤ tt)) (c .before .before .before .before .before .u82 .ensures .0) _ (length-bytes 1 _)
-    (c .before .before .before .before .before .u82 .ensures .1)
-    (ap writtenAnswer (c .before .w2 .given .1))
-
-refused-1 : tie.After-enum-told2 → ⊥
-refused-1 c =
-    row-open (row-1 (c .before .before .before .before .before .before)) 1 (fits (entry (at-1 (c .before .before .before .before .before .before))) 2 (lit≤ tt)) (c .before .before .before .before .u82 .ensures .0)
-    (ap writtenAnswer (c .enum-told2 .given .1))
-
-abbrev at-4 : tie.After-known-told3 → tie.After-new
-at-4 c = at-2 (c .before .before .before .before .before .before .before)
-
-row-4 : (c : tie.After-known-told3) → Row (old (entry (at-4 c))) (c .before .before .before .before .before .u16 .last .1 .0) (c .before .w3 .given .0 .0 .pos) (first-4 (entry (at-4 c))) 4
-row-4 c =
-    row-more (row-2 (c .before .before .before .before .before .before .before)) 2 (fits (entry (at-4 c)) 4 (lit≤ tt)) (c .before .before .before .before .before .u16 .ensures .0) _ (length-bytes 2 _)
-    (c .before .before .before .before .before .u16 .ensures .1)
-    (ap writtenAnswer (c .before .w3 .given .1))
-
-refused-2 : tie.After-enum-told3 → ⊥
-refused-2 c =
-    row-open (row-2 (c .before .before .before .before .before .before)) 2 (fits (entry (at-2 (c .before .before .before .before .before .before))) 4 (lit≤ tt)) (c .before .before .before .before .u16 .ensures .0)
-    (ap writtenAnswer (c .enum-told3 .given .1))
-
-abbrev at-8 : tie.After-known-told4 → tie.After-new
-at-8 c = at-4 (c .before .before .before .before .before .before .before)
-
-row-8 : (c : tie.After-known-told4) → Row (old (entry (at-8 c))) (c .before .before .before .before .before .u32 .last .1 .0) (c .before .w4 .given .0 .0 .pos) (first-8 (entry (at-8 c))) 8
-row-8 c =
-    row-more (row-4 (c .before .before .before .before .before .before .before)) 4 (fits (entry (at-8 c)) 8 (lit≤ tt)) (c .before .before .before .before .before .u32 .ensures .0) _ (length-bytes 4 _)
-    (c .before .before .before .before .before .u32 .ensures .1)
-    (ap writtenAnswer (c .before .w4 .given .1))
-
-refused-4 : tie.After-enum-told4 → ⊥
-refused-4 c =
-    row-open (row-4 (c .before .before .before .before .before .before)) 4 (fits (entry (at-4 (c .before .before .before .before .before .before))) 8 (lit≤ tt)) (c .before .before .before .before .u32 .ensures .0)
-    (ap writtenAnswer (c .enum-told4 .given .1))
-
-abbrev at-16 : tie.After-known-told5 → tie.After-new
-at-16 c = at-8 (c .before .before .before .before .before .before .before)
-
-row-16 : (c : tie.After-known-told5) → Row (old (entry (at-16 c))) (c .before .before .before .before .before .u64 .last .1 .0) (c .before .w5 .given .0 .0 .pos) (first-16 (entry (at-16 c))) 16
-row-16 c =
-    row-more (row-8 (c .before .before .before .before .before .before .before)) 8 (fits (entry (at-16 c)) 16 (lit≤ tt)) (c .before .before .before .before .before .u64 .ensures .0) _ (length-bytes 8 _)
-    (c .before .before .before .before .before .u64 .ensures .1)
-    (ap writtenAnswer (c .before .w5 .given .1))
-
-refused-8 : tie.After-enum-told5 → ⊥
-refused-8 c =
-    row-open (row-8 (c .before .before .before .before .before .before)) 8 (fits (entry (at-8 (c .before .before .before .before .before .before))) 16 (lit≤ tt)) (c .before .before .before .before .u64 .ensures .0)
-    (ap writtenAnswer (c .enum-told5 .given .1))
-
-abbrev at-24 : tie.After-known-told6 → tie.After-new
-at-24 c = at-16 (c .before .before .before .before .before .before .before)
-
-row-24 : (c : tie.After-known-told6) → Row (old (entry (at-24 c))) (c .before .before .before .before .before .u642 .last .1 .0) (c .before .w6 .given .0 .0 .pos) (first-24 (entry (at-24 c))) 24
-row-24 c =
-    row-more (row-16 (c .before .before .before .before .before .before .before)) 8 (fits (entry (at-24 c)) 24 (lit≤ tt)) (c .before .before .before .before .before .u642 .ensures .0) _ (length-bytes 8 _)
-    (c .before .before .before .before .before .u642 .ensures .1)
-    (ap writtenAnswer (c .before .w6 .given .1))
-
-refused-16 : tie.After-enum-told6 → ⊥
-refused-16 c =
-    row-open (row-16 (c .before .before .before .before .before .before)) 8 (fits (entry (at-16 (c .before .before .before .before .before .before))) 24 (lit≤ tt)) (c .before .before .before .before .u642 .ensures .0)
-    (ap writtenAnswer (c .enum-told6 .given .1))
-
-abbrev at-32 : tie.After-known-told7 → tie.After-new
-at-32 c = at-24 (c .before .before .before .before .before .before .before)
-
-row-32 : (c : tie.After-known-told7) → Row (old (entry (at-32 c))) (c .before .before .before .before .before .u643 .last .1 .0) (c .before .w7 .given .0 .0 .pos) (first-32 (entry (at-32 c))) 32
-row-32 c =
-    row-more (row-24 (c .before .before .before .before .before .before .before)) 8 (fits (entry (at-32 c)) 32 (lit≤ tt)) (c .before .before .before .before .before .u643 .ensures .0) _ (length-bytes 8 _)
-    (c .before .before .before .before .before .u643 .ensures .1)
-    (ap writtenAnswer (c .before .w7 .given .1))
-
-refused-24 : tie.After-enum-told7 → ⊥
-refused-24 c =
-    row-open (row-24 (c .before .before .before .before .before .before)) 8 (fits (entry (at-24 (c .before .before .before .before .before .before))) 32 (lit≤ tt)) (c .before .before .before .before .u643 .ensures .0)
-    (ap writtenAnswer (c .enum-told7 .given .1))
-
-abbrev at-40 : tie.After-known-told8 → tie.After-new
-at-40 c = at-32 (c .before .before .before .before .before .before .before)
-
-row-40 : (c : tie.After-known-told8) → Row (old (entry (at-40 c))) (c .before .before .before .before .before .u644 .last .1 .0) (c .before .w8 .given .0 .0 .pos) (first-40 (entry (at-40 c))) 40
-row-40 c =
-    row-more (row-32 (c .before .before .before .before .before .before .before)) 8 (fits (entry (at-40 c)) 40 (lit≤ tt)) (c .before .before .before .before .before .u644 .ensures .0) _ (length-bytes 8 _)
-    (c .before .before .before .before .before .u644 .ensures .1)
-    (ap writtenAnswer (c .before .w8 .given .1))
-
-refused-32 : tie.After-enum-told8 → ⊥
-refused-32 c =
-    row-open (row-32 (c .before .before .before .before .before .before)) 8 (fits (entry (at-32 (c .before .before .before .before .before .before))) 40 (lit≤ tt)) (c .before .before .before .before .u644 .ensures .0)
-    (ap writtenAnswer (c .enum-told8 .given .1))
-
-abbrev at-48 : tie.After-enum-told9 → tie.After-new
-at-48 c = at-40 (c .before .before .before .before .before .before)
-
-row-48 : (c : tie.After-enum-told9) → Row (old (entry (at-48 c))) (c .before .before .before .before .zeros .last .1 .0) (c .enum-told9 .given .0 .0 .pos) (first-48 (entry (at-48 c))) 48
-row-48 c =
-    row-more (row-40 (c .before .before .before .before .before .before)) 8 (fits (entry (at-48 c)) 48 (lit≤ tt)) (c .before .before .before .before .zeros .ensures .0) _ refl
-    (c .before .before .before .before .zeros .ensures .1)
-    (ap writtenAnswer (c .enum-told9 .given .1))
-
-refused-40 : tie.After-enum-told10 → ⊥
-refused-40 c =
-    row-open (row-40 (c .before .before .before .before .before .before)) 8 (fits (entry (at-40 (c .before .before .before .before .before .before))) 48 (lit≤ tt)) (c .before .before .before .before .zeros .ensures .0)
-    (ap writtenAnswer (c .enum-told10 .given .1))
-
-new-requires : tie.Need-new-requires
-new-requires c κs = search needs
-
-u8-requires : tie.Need-u8-requires
-u8-requires c κs = search needs
-
-enum-known-w : tie.Need-enum-known-w
-enum-known-w c = search needs
-
-enum-told : tie.Need-enum-told
-enum-told c = search needs
-
-same-length : tie.Need-same-length
-same-length c = absurd (refused-0 c)
-
-returns : tie.Need-returns
-returns c = absurd (refused-0 c)
-
-u8-requires-2 : tie.Need-u8-requires-2
-u8-requires-2 c κs = search needs
-
-enum-known-w-2 : tie.Need-enum-known-w-2
-enum-known-w-2 c = search needs
-
-enum-told-2 : tie.Need-enum-told-2
-enum-told-2 c = search needs
-
-same-length-2 : tie.Need-same-length-2
-same-length-2 c = absurd (refused-1 c)
-
-returns-2 : tie.Need-returns-2
-returns-2 c = absurd (refused-1 c)
-
-u16-requires : tie.Need-u16-requires
-u16-requires c κs = search needs
-
-enum-known-w-3 : tie.Need-enum-known-w-3
-enum-known-w-3 c = search needs
-
-enum-told-3 : tie.Need-enum-told-3
-enum-told-3 c = search needs
-
-same-length-3 : tie.Need-same-length-3
-same-length-3 c = absurd (refused-2 c)
-
-returns-3 : tie.Need-returns-3
-returns-3 c = absurd (refused-2 c)
-
-u32-requires : tie.Need-u32-requires
-u32-requires c κs = search needs
-
-enum-known-w-4 : tie.Need-enum-known-w-4
-enum-known-w-4 c = search needs
-
-enum-told-4 : tie.Need-enum-told-4
-enum-told-4 c = search needs
-
-same-length-4 : tie.Need-same-length-4
-same-length-4 c = absurd (refused-4 c)
-
-returns-4 : tie.Need-returns-4
-returns-4 c = absurd (refused-4 c)
-
-u64-requires : tie.Need-u64-requires
-u64-requires c κs = search needs
-
-enum-known-w-5 : tie.Need-enum-known-w-5
-enum-known-w-5 c = search needs
-
-enum-told-5 : tie.Need-enum-told-5
-enum-told-5 c = search needs
-
-same-length-5 : tie.Need-same-length-5
-same-length-5 c = absurd (refused-8 c)
-
-returns-5 : tie.Need-returns-5
-returns-5 c = absurd (refused-8 c)
-
-u64-requires-2 : tie.Need-u64-requires-2
-u64-requires-2 c κs = search needs
-
-enum-known-w-6 : tie.Need-enum-known-w-6
-enum-known-w-6 c = search needs
-
-enum-told-6 : tie.Need-enum-told-6
-enum-told-6 c = search needs
-
-same-length-6 : tie.Need-same-length-6
-same-length-6 c = absurd (refused-16 c)
-
-returns-6 : tie.Need-returns-6
-returns-6 c = absurd (refused-16 c)
-
-u64-requires-3 : tie.Need-u64-requires-3
-u64-requires-3 c κs = search needs
-
-enum-known-w-7 : tie.Need-enum-known-w-7
-enum-known-w-7 c = search needs
-
-enum-told-7 : tie.Need-enum-told-7
-enum-told-7 c = search needs
-
-same-length-7 : tie.Need-same-length-7
-same-length-7 c = absurd (refused-24 c)
-
-returns-7 : tie.Need-returns-7
-returns-7 c = absurd (refused-24 c)
-
-u64-requires-4 : tie.Need-u64-requires-4
-u64-requires-4 c κs = search needs
-
-enum-known-w-8 : tie.Need-enum-known-w-8
-enum-known-w-8 c = search needs
-
-enum-told-8 : tie.Need-enum-told-8
-enum-told-8 c = search needs
-
-same-length-8 : tie.Need-same-length-8
-same-length-8 c = absurd (refused-32 c)
-
-returns-8 : tie.Need-returns-8
-returns-8 c = absurd (refused-32 c)
-
-zeros-requires : tie.Need-zeros-requires
-zeros-requires c κs = search needs
-
-enum-told-9 : tie.Need-enum-told-9
-enum-told-9 c = search needs
-
-enum-told-10 : tie.Need-enum-told-10
-enum-told-10 c = search needs
-
-same-length-9 : tie.Need-same-length-9
-same-length-9 c = absurd (refused-40 c)
-
-returns-9 : tie.Need-returns-9
-returns-9 c = absurd (refused-40 c)
-
-same-length-10 : tie.Need-same-length-10
-same-length-10 c = row-length (row-48 c) (fits (entry (at-48 c)) 48 (lit≤ tt))
-
-returns-10 : tie.Need-returns-10
-unfolding baseBytes
-returns-10 c = let row = row-48 c in row .is ∙ put-all _ _ (row .size ∙ sym (entry (at-48 c) .pre))
+unfoldable reserved1 : (c : tie.After-zeros) → Writes (c .zeros .result) (c .zeros .last .1 .0)
+reserved1 c = writes-run 8 (features (search)) (search) _ refl (c .zeros .ensures)
 
 pub write-base-spec : {M : Type 1} → statement M
+unfolding log2-block-size log2-table-slot-size device-index reserved0 owner-generation table-offset created-unix-s features reserved1 baseBytes
 write-base-spec =
     tie.close
     (tie.spec
-    new-requires
-    u8-requires
-    enum-known-w
-    enum-told
-    same-length
-    returns
-    u8-requires-2
-    enum-known-w-2
-    enum-told-2
-    same-length-2
-    returns-2
-    u16-requires
-    enum-known-w-3
-    enum-told-3
-    same-length-3
-    returns-3
-    u32-requires
-    enum-known-w-4
-    enum-told-4
-    same-length-4
-    returns-4
-    u64-requires
-    enum-known-w-5
-    enum-told-5
-    same-length-5
-    returns-5
-    u64-requires-2
-    enum-known-w-6
-    enum-told-6
-    same-length-6
-    returns-6
-    u64-requires-3
-    enum-known-w-7
-    enum-told-7
-    same-length-7
-    returns-7
-    u64-requires-4
-    enum-known-w-8
-    enum-told-8
-    same-length-8
-    returns-8
-    zeros-requires
-    enum-told-9
-    enum-told-10
-    same-length-9
-    returns-9
-    same-length-10
-    returns-10)
+    (λ c κs. tt)
+    (λ c κs. tt) (λ c. search) (λ c. search) (λ c. never (log2-block-size (search)) (lit≤ tt) (search)) (λ c. never (log2-block-size (search)) (lit≤ tt) (search))
+    (λ c κs. tt) (λ c. search) (λ c. search) (λ c. never (log2-table-slot-size (search)) (lit≤ tt) (search)) (λ c. never (log2-table-slot-size (search)) (lit≤ tt) (search))
+    (λ c κs. tt) (λ c. search) (λ c. search) (λ c. never (device-index (search)) (lit≤ tt) (search)) (λ c. never (device-index (search)) (lit≤ tt) (search))
+    (λ c κs. tt) (λ c. search) (λ c. search) (λ c. never (reserved0 (search)) (lit≤ tt) (search)) (λ c. never (reserved0 (search)) (lit≤ tt) (search))
+    (λ c κs. tt) (λ c. search) (λ c. search) (λ c. never (owner-generation (search)) (lit≤ tt) (search)) (λ c. never (owner-generation (search)) (lit≤ tt) (search))
+    (λ c κs. tt) (λ c. search) (λ c. search) (λ c. never (table-offset (search)) (lit≤ tt) (search)) (λ c. never (table-offset (search)) (lit≤ tt) (search))
+    (λ c κs. tt) (λ c. search) (λ c. search) (λ c. never (created-unix-s (search)) (lit≤ tt) (search)) (λ c. never (created-unix-s (search)) (lit≤ tt) (search))
+    (λ c κs. tt) (λ c. search) (λ c. search) (λ c. never (features (search)) (lit≤ tt) (search)) (λ c. never (features (search)) (lit≤ tt) (search))
+    (λ c κs. tt) (λ c. search) (λ c. search) (λ c. never (reserved1 (search)) (lit≤ tt) (search)) (λ c. never (reserved1 (search)) (lit≤ tt) (search))
+    (λ c. same-long (reserved1 (search)) (c .enum-told9 .given .1)) (λ c. over-whole (reserved1 (search)) (c .enum-told9 .given .1) (lit≤ tt)))
