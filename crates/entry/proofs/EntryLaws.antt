@@ -18,10 +18,10 @@ use Rattle.region.proofs.OutcomeLaws.{then-given}
 use Rattle.name.specs.Name.{noName, paddedCheck}
 use Rattle.name.specs.declared.meta.RegionName.{RegionName}
 use Rattle.name.proofs.NameLaws.{padded-bytes, padded-none}
-use Rattle.entry_layout.specs.Layout.{rawFront, rawPlaces, frontBytes, placesBytes, partsBytes}
-use Rattle.entry_layout.specs.declared.EntryFront.{EntryFront}
-use Rattle.entry_layout.specs.declared.EntryPlaces.{EntryPlaces}
-use Rattle.entry_layout.proofs.LayoutLaws.{length-parts}
+use Rattle.entry.specs.Layout.{rawFront, rawPlaces, frontBytes, placesBytes, partsBytes}
+use Rattle.entry.specs.declared.layout.EntryFront.{EntryFront}
+use Rattle.entry.specs.declared.layout.EntryPlaces.{EntryPlaces}
+use Rattle.entry.proofs.LayoutLaws.{length-parts}
 use Rattle.entry.specs.declared.meta2.RawEntry.{RawEntry}
 use Rattle.entry.specs.declared.meta2.Entry2.{Entry2}
 use Rattle.entry.specs.declared.meta2.EntryLimits.{EntryLimits}

@@ -1,2 +1,3 @@
+pub mod LayoutLaws
 pub mod CheckLaws
 pub mod EntryLaws

@@ -12,9 +12,9 @@ use Rattle.name.specs.Name.{noName, paddedCheck, paddedName}
 use Rattle.name.specs.declared.meta.RegionName.{RegionName}
 use Rattle.entry_check.specs.Reserved.{widenedSpan}
 use Rattle.entry_check.specs.declared.meta2.ReservedSpan.{ReservedSpan}
-use Rattle.entry_layout.specs.Layout.{rawFront, rawPlaces, partsBytes}
-use Rattle.entry_layout.specs.declared.EntryFront.{EntryFront}
-use Rattle.entry_layout.specs.declared.EntryPlaces.{EntryPlaces}
+use Rattle.entry.specs.Layout.{rawFront, rawPlaces, partsBytes}
+use Rattle.entry.specs.declared.layout.EntryFront.{EntryFront}
+use Rattle.entry.specs.declared.layout.EntryPlaces.{EntryPlaces}
 use Rattle.entry.specs.declared.meta2.RawEntry.{RawEntry}
 use Rattle.entry.specs.declared.meta2.Entry2.{Entry2}
 use Rattle.entry.specs.declared.meta2.EntryLimits.{EntryLimits}

@@ -1,2 +1,3 @@
 // Layer 3: table entries.
+mod layout;
 pub mod meta2;

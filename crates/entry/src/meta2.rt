@@ -18,6 +18,13 @@
 // | 72 | 8 | span_start | whole blocks, below span_end |
 // | 80 | 8 | span_end | whole blocks, in the file |
 // | 88 | 8 | footprint_seq | 1 to the page's number |
+use crate::layout::EntryFront;
+use crate::layout::EntryFrontRead;
+use crate::layout::EntryPlaces;
+use crate::layout::EntryPlacesRead;
+use crate::layout::read_front;
+use crate::layout::read_places;
+use crate::layout::write_parts;
 use codec::codec::ReadBytes;
 use codec::codec::Reader;
 use entry_check::meta2::ReservedSpan;
@@ -29,13 +36,6 @@ use entry_check::meta2::check_sizes;
 use entry_check::meta2::check_span;
 use entry_check::meta2::check_state;
 use entry_check::meta2::widened_span;
-use entry_layout::EntryFront;
-use entry_layout::EntryFrontRead;
-use entry_layout::EntryPlaces;
-use entry_layout::EntryPlacesRead;
-use entry_layout::read_front;
-use entry_layout::read_places;
-use entry_layout::write_parts;
 use name::meta::RegionName;
 use region::meta::Check;
 use region::meta::KindRead;

@@ -23,7 +23,7 @@ pub fn validate(slot: &[u8], e: Expect) -> SlotStatus
     if is_blank(slot) {
         return SlotStatus::Blank;
     }
-    match header_check::parse_header(slot, e) {
+    match header_read::parse_header(slot, e) {
         Parsed::Failed(status) => status,
         Parsed::Passed(info, payload_crc) => {
             if payload_ok(slot, info, payload_crc) {
@@ -50,7 +50,7 @@ pub fn header_facts(slot: &[u8], e: Expect) -> HeaderFacts
     let ReadU32::Value(stored, _) = Reader { pos: 8 }.u32(slot) else {
         return HeaderFacts::Nothing;
     };
-    match header_check::parse_header(slot, e) {
+    match header_read::parse_header(slot, e) {
         Parsed::Failed(_) => HeaderFacts::Stored(stored),
         Parsed::Passed(info, _) => HeaderFacts::Numbered(
             stored,

@@ -8,7 +8,7 @@ use lib.ListN.{take, drop}
 use Rattle.codec.specs.Cursor.{bytesAnswer}
 use Rattle.codec.proofs.CursorLaws.{answer-done, answer-refused, array-done}
 use Rattle.region.proofs.FitLaws.{held-is, held-none}
-use Rattle.entry_layout.specs.Layout.{frontOutcome, placesOutcome}
+use Rattle.entry.specs.Layout.{frontOutcome, placesOutcome}
 use Rattle.entry.proofs.EntryLaws.{entry-cut, entry-there}
 use borrow.Author.Needs.{needs}
 use Rattle.entry.proofs.meta2.RawEntry.read.Statement.{statement}
