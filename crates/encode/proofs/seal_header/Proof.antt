@@ -39,7 +39,7 @@ module _ (c : tie.After-write-header) where
 -- ---- the row after its one write
 
 unfoldable sealed : (c : tie.After-u32) → Writes (c .u32 .result) (c .u32 .last .1 .0)
-sealed c = writes 4 (over-from 8 128 refl (lit≤ tt) (room (search))) refl _ (c .u32 .ensures)
+sealed c = writes _ (over-from _ 128 refl (lit≤ tt) (room (search))) refl _ (c .u32 .ensures)
 
 pub seal-header-spec : {M : Type 1} → statement M
 unfolding sealed

@@ -1,9 +1,8 @@
 -- `write_body` meets its contract: two writes, the payload and the zeros after it, cover the whole of the body.
 use mathlib.Core.Path.{refl}
-use Prim.Native.Nat.{_+_, _-_, _≤_}
-use native.Mathlib.Omega.{arith}
+use Prim.Native.Nat.{ℕ}
 use borrow.Author.Needs.{needs}
-use lib.ListN.{length, length-replicate}
+use lib.ListN.{length-replicate}
 use Rattle.codec.proofs.Steps.{Writes, over-all, writes-run, never, over-whole, same-long}
 use Rattle.encode.proofs.write_body.Statement.{statement}
 use Rattle.encode.proofs.write_body.Tie as tie
@@ -14,7 +13,7 @@ unfoldable payload : (c : tie.After-bytes) → Writes (c .bytes .result) (c .byt
 payload c = writes-run _ (over-all _ (search) refl) refl _ refl (c .bytes .ensures)
 
 unfoldable padding : (c : tie.After-zeros) → Writes (c .zeros .result) (c .zeros .last .1 .0)
-padding c = writes-run _ (payload (search)) (search) _ (length-replicate _ 0) (c .zeros .ensures)
+padding c = writes-run _ (payload (search)) (search) _ (length-replicate {A = ℕ} _ 0) (c .zeros .ensures)
 
 pub write-body-spec : {M : Type 1} → statement M
 unfolding payload padding

@@ -10,19 +10,19 @@ use Rattle.header_write.proofs.write_history.Tie as tie
 -- ---- the row after each write
 
 unfoldable prev-header-crc32c : (c : tie.After-u32) → Writes (c .u32 .result) (c .u32 .last .1 .0)
-prev-header-crc32c c = writes 4 (over-all 48 (search) (search)) refl _ (c .u32 .ensures)
+prev-header-crc32c c = writes _ (over-all 48 (search) (search)) refl _ (c .u32 .ensures)
 
 unfoldable reserved1 : (c : tie.After-u322) → Writes (c .u322 .result) (c .u322 .last .1 .0)
-reserved1 c = writes 4 (prev-header-crc32c (search)) (search) _ (c .u322 .ensures)
+reserved1 c = writes _ (prev-header-crc32c (search)) (search) _ (c .u322 .ensures)
 
 unfoldable owner-generation : (c : tie.After-u64) → Writes (c .u64 .result) (c .u64 .last .1 .0)
-owner-generation c = writes 8 (reserved1 (search)) (search) _ (c .u64 .ensures)
+owner-generation c = writes _ (reserved1 (search)) (search) _ (c .u64 .ensures)
 
 unfoldable meta-seq : (c : tie.After-u642) → Writes (c .u642 .result) (c .u642 .last .1 .0)
-meta-seq c = writes 8 (owner-generation (search)) (search) _ (c .u642 .ensures)
+meta-seq c = writes _ (owner-generation (search)) (search) _ (c .u642 .ensures)
 
 unfoldable reserved2 : (c : tie.After-zeros) → Writes (c .zeros .result) (c .zeros .last .1 .0)
-reserved2 c = writes-run 24 (meta-seq (search)) (search) _ refl (c .zeros .ensures)
+reserved2 c = writes-run _ (meta-seq (search)) (search) _ refl (c .zeros .ensures)
 
 pub write-history-spec : {M : Type 1} → statement M
 unfolding prev-header-crc32c reserved1 owner-generation meta-seq reserved2 historyBytes

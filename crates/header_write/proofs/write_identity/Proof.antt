@@ -19,32 +19,32 @@ index c = search
 -- ---- the row after each write
 
 unfoldable volume-uuid : (c : tie.After-bytes) → Writes (c .bytes .result) (c .bytes .last .1 .0)
-volume-uuid c = writes-run 16 (over-all 48 (search) (search)) refl _ (volume-length (search)) (rw (volume-length (search)) at (c .bytes .ensures))
+volume-uuid c = writes-run _ (over-all 48 (search) (search)) refl _ (volume-length (search)) (rw (volume-length (search)) at (c .bytes .ensures))
 
 unfoldable object-id : (c : tie.After-u64) → Writes (c .u64 .result) (c .u64 .last .1 .0)
-object-id c = writes 8 (volume-uuid (search)) (search) _ (c .u64 .ensures)
+object-id c = writes _ (volume-uuid (search)) (search) _ (c .u64 .ensures)
 
 unfoldable generation : (c : tie.After-u642) → Writes (c .u642 .result) (c .u642 .last .1 .0)
-generation c = writes 8 (object-id (search)) (search) _ (c .u642 .ensures)
+generation c = writes _ (object-id (search)) (search) _ (c .u642 .ensures)
 
 unfoldable slot-offset : (c : tie.After-u643) → Writes (c .u643 .result) (c .u643 .last .1 .0)
-slot-offset c = writes 8 (generation (search)) (search) _ (c .u643 .ensures)
+slot-offset c = writes _ (generation (search)) (search) _ (c .u643 .ensures)
 
 unfoldable payload-len : (c : tie.After-u32) → Writes (c .u32 .result) (c .u32 .last .1 .0)
-payload-len c = writes 4 (slot-offset (search)) (search) _ (c .u32 .ensures)
+payload-len c = writes _ (slot-offset (search)) (search) _ (c .u32 .ensures)
 
 unfoldable slot-index : (c : tie.After-u8) → Writes (c .u8 .result) (c .u8 .last .1 .0)
 unfolding index
-slot-index c = writes 1 (payload-len (search)) (search) _ (rw (index (search) .as-u8 .ensures) at (c .u8 .ensures))
+slot-index c = writes _ (payload-len (search)) (search) _ (rw (index (search) .as-u8 .ensures) at (c .u8 .ensures))
 
 unfoldable slot-count : (c : tie.After-u82) → Writes (c .u82 .result) (c .u82 .last .1 .0)
-slot-count c = writes 1 (slot-index (search)) (search) _ (c .u82 .ensures)
+slot-count c = writes _ (slot-index (search)) (search) _ (c .u82 .ensures)
 
 unfoldable log2-slot-size : (c : tie.After-u83) → Writes (c .u83 .result) (c .u83 .last .1 .0)
-log2-slot-size c = writes 1 (slot-count (search)) (search) _ (c .u83 .ensures)
+log2-slot-size c = writes _ (slot-count (search)) (search) _ (c .u83 .ensures)
 
 unfoldable reserved : (c : tie.After-u84) → Writes (c .u84 .result) (c .u84 .last .1 .0)
-reserved c = writes 1 (log2-slot-size (search)) (search) _ (c .u84 .ensures)
+reserved c = writes _ (log2-slot-size (search)) (search) _ (c .u84 .ensures)
 
 pub write-identity-spec : {M : Type 1} → statement M
 unfolding volume-uuid object-id generation slot-offset payload-len slot-index slot-count log2-slot-size reserved identityBytes

@@ -23,7 +23,7 @@ module _ (c : tie.Start) where
 -- ---- the row after each of the two writes: each begins a row of its own
 
 unfoldable entry : (c : tie.After-bytes) → Writes (c .bytes .result) (c .bytes .last .1 .0)
-entry c = writes-run 96 (over-all 96 (search) (place-length (search))) refl _ (entry-length (search)) (rw (entry-length (search)) at (c .bytes .ensures))
+entry c = writes-run _ (over-all 96 (search) (place-length (search))) refl _ (entry-length (search)) (rw (entry-length (search)) at (c .bytes .ensures))
 
 -- The place, once the entry is there.
 room : (c : tie.After-enum-told) → 96 ≤ length (c .before .before .before .before .bytes .last .1 .0)
@@ -31,7 +31,7 @@ unfolding entry
 room c = le-of-eq (sym (same-long (entry (search)) (c .enum-told .given .1) ∙ entry (search) .exact))
 
 unfoldable reserved : (c : tie.After-u16) → Writes (c .u16 .result) (c .u16 .last .1 .0)
-reserved c = writes 2 (over-from 38 96 refl (lit≤ tt) (room (search))) refl _ (c .u16 .ensures)
+reserved c = writes _ (over-from _ 96 refl (lit≤ tt) (room (search))) refl _ (c .u16 .ensures)
 
 pub write-entry-spec : {M : Type 1} → statement M
 unfolding entry reserved

@@ -10,16 +10,16 @@ use Rattle.page_write.proofs.write_header.Tie as tie
 -- ---- the row after each write
 
 unfoldable page-index : (c : tie.After-u32) → Writes (c .u32 .result) (c .u32 .last .1 .0)
-page-index c = writes 4 (over-all 24 (search) (search)) refl _ (c .u32 .ensures)
+page-index c = writes _ (over-all 24 (search) (search)) refl _ (c .u32 .ensures)
 
 unfoldable next-seq : (c : tie.After-u322) → Writes (c .u322 .result) (c .u322 .last .1 .0)
-next-seq c = writes 4 (page-index (search)) (search) _ (c .u322 .ensures)
+next-seq c = writes _ (page-index (search)) (search) _ (c .u322 .ensures)
 
 unfoldable count : (c : tie.After-u16) → Writes (c .u16 .result) (c .u16 .last .1 .0)
-count c = writes 2 (next-seq (search)) (search) _ (c .u16 .ensures)
+count c = writes _ (next-seq (search)) (search) _ (c .u16 .ensures)
 
 unfoldable rest : (c : tie.After-zeros) → Writes (c .zeros .result) (c .zeros .last .1 .0)
-rest c = writes-run 14 (count (search)) (search) _ refl (c .zeros .ensures)
+rest c = writes-run _ (count (search)) (search) _ refl (c .zeros .ensures)
 
 pub write-header-spec : {M : Type 1} → statement M
 unfolding page-index next-seq count rest headerBytes

@@ -28,10 +28,10 @@ tailOf =
 -- ---- the reads
 
 unfoldable table-pages : (c : tie.After-u32) → Reads _ _ _ _ (c .u32 .ensures)
-table-pages c = reads 4 (start 48 refl) (c .u32 .ensures)
+table-pages c = reads _ (start _ refl) (c .u32 .ensures)
 
 unfoldable entries-per-page : (c : tie.After-u16) → Reads _ _ _ _ (c .u16 .ensures)
-entries-per-page c = reads 2 (after (table-pages (search)) (ap u32Answer (c .before .before .table-pages .given .1))) (c .u16 .ensures)
+entries-per-page c = reads _ (after (table-pages (search)) (ap u32Answer (c .before .before .table-pages .given .1))) (c .u16 .ensures)
 
 unfoldable clean-close : (c : tie.After-u8) → Reads _ _ _ _ (c .u8 .ensures)
 clean-close c = reads-byte (after (entries-per-page (search)) (ap u16Answer (c .before .before .entries-per-page .given .1))) (c .u8 .ensures)
@@ -40,10 +40,10 @@ unfoldable reserved0 : (c : tie.After-u82) → Reads _ _ _ _ (c .u82 .ensures)
 reserved0 c = reads-byte (after (clean-close (search)) (ap u8Answer (c .before .before .clean-close .given .1))) (c .u82 .ensures)
 
 unfoldable flags : (c : tie.After-u322) → Reads _ _ _ _ (c .u322 .ensures)
-flags c = reads 4 (after (reserved0 (search)) (ap u8Answer (c .before .before .reserved0 .given .1))) (c .u322 .ensures)
+flags c = reads _ (after (reserved0 (search)) (ap u8Answer (c .before .before .reserved0 .given .1))) (c .u322 .ensures)
 
 unfoldable reserved1 : (c : tie.After-u323) → Reads _ _ _ _ (c .u323 .ensures)
-reserved1 c = reads 4 (after (flags (search)) (ap u32Answer (c .before .before .flags .given .1))) (c .u323 .ensures)
+reserved1 c = reads _ (after (flags (search)) (ap u32Answer (c .before .before .flags .given .1))) (c .u323 .ensures)
 
 pub read-tail-spec : {M : Type 1} → statement M
 unfolding table-pages entries-per-page clean-close reserved0 flags reserved1

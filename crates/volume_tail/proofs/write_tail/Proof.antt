@@ -4,7 +4,7 @@ use mathlib.Core.Path.{refl, sym}
 use native.Mathlib.Omega.{arith}
 use lib.Dec.{lit≤}
 use Rattle.codec.proofs.CursorLaws.{put-none}
-use Rattle.codec.proofs.Steps.{Writes, over-from, writes, writes-run, never, over-placed, same-long}
+use Rattle.codec.proofs.Steps.{Writes, over-from, writes, never, over-placed, same-long}
 use Rattle.volume_tail.specs.Tail.{tailBytes}
 use Rattle.volume_tail.proofs.TailLaws.{length-tail}
 use Rattle.volume_tail.proofs.write_tail.Statement.{statement}
@@ -13,22 +13,22 @@ use Rattle.volume_tail.proofs.write_tail.Tie as tie
 -- ---- the row after each write
 
 unfoldable table-pages : (c : tie.After-u32) → Writes (c .u32 .result) (c .u32 .last .1 .0)
-table-pages c = writes 4 (over-from 0 16 (search) (lit≤ tt) (search)) refl _ (c .u32 .ensures)
+table-pages c = writes _ (over-from 0 16 (search) (lit≤ tt) (search)) refl _ (c .u32 .ensures)
 
 unfoldable entries-per-page : (c : tie.After-u16) → Writes (c .u16 .result) (c .u16 .last .1 .0)
-entries-per-page c = writes 2 (table-pages (search)) (search) _ (c .u16 .ensures)
+entries-per-page c = writes _ (table-pages (search)) (search) _ (c .u16 .ensures)
 
 unfoldable clean-close : (c : tie.After-u8) → Writes (c .u8 .result) (c .u8 .last .1 .0)
-clean-close c = writes 1 (entries-per-page (search)) (search) _ (c .u8 .ensures)
+clean-close c = writes _ (entries-per-page (search)) (search) _ (c .u8 .ensures)
 
 unfoldable reserved0 : (c : tie.After-u82) → Writes (c .u82 .result) (c .u82 .last .1 .0)
-reserved0 c = writes 1 (clean-close (search)) (search) _ (c .u82 .ensures)
+reserved0 c = writes _ (clean-close (search)) (search) _ (c .u82 .ensures)
 
 unfoldable flags : (c : tie.After-u322) → Writes (c .u322 .result) (c .u322 .last .1 .0)
-flags c = writes 4 (reserved0 (search)) (search) _ (c .u322 .ensures)
+flags c = writes _ (reserved0 (search)) (search) _ (c .u322 .ensures)
 
 unfoldable reserved1 : (c : tie.After-u323) → Writes (c .u323 .result) (c .u323 .last .1 .0)
-reserved1 c = writes 4 (flags (search)) (search) _ (c .u323 .ensures)
+reserved1 c = writes _ (flags (search)) (search) _ (c .u323 .ensures)
 
 pub write-tail-spec : {M : Type 1} → statement M
 unfolding table-pages entries-per-page clean-close reserved0 flags reserved1 tailBytes

@@ -21,16 +21,16 @@ headerOf =
 -- ---- the reads
 
 unfoldable page-index : (c : tie.After-u32) → Reads _ _ _ _ (c .u32 .ensures)
-page-index c = reads 4 (start 0 (c .before .new .ensures)) (c .u32 .ensures)
+page-index c = reads _ (start _ (c .before .new .ensures)) (c .u32 .ensures)
 
 unfoldable next-seq : (c : tie.After-u322) → Reads _ _ _ _ (c .u322 .ensures)
-next-seq c = reads 4 (after (page-index (search)) (ap u32Answer (c .before .before .page-index .given .1))) (c .u322 .ensures)
+next-seq c = reads _ (after (page-index (search)) (ap u32Answer (c .before .before .page-index .given .1))) (c .u322 .ensures)
 
 unfoldable count : (c : tie.After-u16) → Reads _ _ _ _ (c .u16 .ensures)
-count c = reads 2 (after (next-seq (search)) (ap u32Answer (c .before .before .next-seq .given .1))) (c .u16 .ensures)
+count c = reads _ (after (next-seq (search)) (ap u32Answer (c .before .before .next-seq .given .1))) (c .u16 .ensures)
 
 unfoldable rest : (c : tie.After-bytes) → Reads _ _ _ _ (c .bytes .ensures)
-rest c = reads-run 14 (after (count (search)) (ap u16Answer (c .before .before .count .given .1))) (c .bytes .ensures)
+rest c = reads-run _ (after (count (search)) (ap u16Answer (c .before .before .count .given .1))) (c .bytes .ensures)
 
 pub read-header-spec : {M : Type 1} → statement M
 unfolding page-index next-seq count rest

@@ -35,31 +35,31 @@ baseOf =
 -- ---- the reads
 
 unfoldable log2-block-size : (c : tie.After-u8) → Reads _ _ _ _ (c .u8 .ensures)
-log2-block-size c = reads-byte (start 0 (c .before .new .ensures)) (c .u8 .ensures)
+log2-block-size c = reads-byte (start _ (c .before .new .ensures)) (c .u8 .ensures)
 
 unfoldable log2-table-slot-size : (c : tie.After-u82) → Reads _ _ _ _ (c .u82 .ensures)
 log2-table-slot-size c = reads-byte (after (log2-block-size (search)) (ap u8Answer (c .before .before .log2-block-size .given .1))) (c .u82 .ensures)
 
 unfoldable device-index : (c : tie.After-u16) → Reads _ _ _ _ (c .u16 .ensures)
-device-index c = reads 2 (after (log2-table-slot-size (search)) (ap u8Answer (c .before .before .log2-table-slot-size .given .1))) (c .u16 .ensures)
+device-index c = reads _ (after (log2-table-slot-size (search)) (ap u8Answer (c .before .before .log2-table-slot-size .given .1))) (c .u16 .ensures)
 
 unfoldable reserved0 : (c : tie.After-u32) → Reads _ _ _ _ (c .u32 .ensures)
-reserved0 c = reads 4 (after (device-index (search)) (ap u16Answer (c .before .before .device-index .given .1))) (c .u32 .ensures)
+reserved0 c = reads _ (after (device-index (search)) (ap u16Answer (c .before .before .device-index .given .1))) (c .u32 .ensures)
 
 unfoldable owner-generation : (c : tie.After-u64) → Reads _ _ _ _ (c .u64 .ensures)
-owner-generation c = reads 8 (after (reserved0 (search)) (ap u32Answer (c .before .before .reserved0 .given .1))) (c .u64 .ensures)
+owner-generation c = reads _ (after (reserved0 (search)) (ap u32Answer (c .before .before .reserved0 .given .1))) (c .u64 .ensures)
 
 unfoldable table-offset : (c : tie.After-u642) → Reads _ _ _ _ (c .u642 .ensures)
-table-offset c = reads 8 (after (owner-generation (search)) (ap u64Answer (c .before .before .owner-generation .given .1))) (c .u642 .ensures)
+table-offset c = reads _ (after (owner-generation (search)) (ap u64Answer (c .before .before .owner-generation .given .1))) (c .u642 .ensures)
 
 unfoldable created-unix-s : (c : tie.After-u643) → Reads _ _ _ _ (c .u643 .ensures)
-created-unix-s c = reads 8 (after (table-offset (search)) (ap u64Answer (c .before .before .table-offset .given .1))) (c .u643 .ensures)
+created-unix-s c = reads _ (after (table-offset (search)) (ap u64Answer (c .before .before .table-offset .given .1))) (c .u643 .ensures)
 
 unfoldable features : (c : tie.After-u644) → Reads _ _ _ _ (c .u644 .ensures)
-features c = reads 8 (after (created-unix-s (search)) (ap u64Answer (c .before .before .created-unix-s .given .1))) (c .u644 .ensures)
+features c = reads _ (after (created-unix-s (search)) (ap u64Answer (c .before .before .created-unix-s .given .1))) (c .u644 .ensures)
 
 unfoldable reserved1 : (c : tie.After-u645) → Reads _ _ _ _ (c .u645 .ensures)
-reserved1 c = reads 8 (after (features (search)) (ap u64Answer (c .before .before .features .given .1))) (c .u645 .ensures)
+reserved1 c = reads _ (after (features (search)) (ap u64Answer (c .before .before .features .given .1))) (c .u645 .ensures)
 
 pub read-base-spec : {M : Type 1} → statement M
 unfolding log2-block-size log2-table-slot-size device-index reserved0 owner-generation table-offset created-unix-s features reserved1
