@@ -8,7 +8,7 @@ use crate::pairs::{MetaSeq, PairPart};
 use frame::frame::SlotPart;
 
 // The highest number, how many slots hold it (2 for several), and the next lower one.
-#[derive(Drop)]
+#[derive(Clone, Copy)]
 pub struct Maxima {
     pub max1: u64,
     pub max1_count: usize,

@@ -9,21 +9,21 @@ use frame::frame::SlotPart;
 use slot::slot::SlotIndex;
 
 // Both slots of one pair, as read.
-#[derive(Drop)]
+#[derive(Clone, Copy)]
 pub struct PairPart {
     pub a: SlotPart,
     pub b: SlotPart,
 }
 
 // The number of a write, if it is known.
-#[derive(Drop)]
+#[derive(Clone, Copy)]
 pub enum MetaSeq {
     Nothing,
     Number(u64),
 }
 
 // The slot opposite a valid winner.
-#[derive(Drop)]
+#[derive(Clone, Copy)]
 pub enum Opposite {
     // The previous version, intact, or a slot never written opposite a first-generation winner.
     Nothing,
@@ -35,7 +35,7 @@ pub enum Opposite {
 }
 
 // What a pair's own slots show.
-#[derive(Drop)]
+#[derive(Clone, Copy)]
 pub enum PairCase {
     // Written by a newer format, or with a must-understand flag this version does not know.
     Refused,

@@ -5,7 +5,7 @@ ghost use Rattle.cases.specs.Hex.{hexValue, decoded, fieldBytes, is_some, bytes_
 
 // The number of bytes that were written to the start of the buffer. `Bad` where the text is not in hexadecimal or its bytes do not fit:
 // then the buffer is as it was.
-#[derive(Drop)]
+#[derive(Clone, Copy)]
 pub enum Decoded {
     Bytes(usize),
     Bad,

@@ -4,7 +4,7 @@ ghost use Rattle.cases.specs.Line.{next, fields};
 
 // Where the fields of a line stand: the name up to `name_end`, the input from `input` to `input_end`, and what is expected from `expected`
 // to the line's end.
-#[derive(Drop)]
+#[derive(Clone, Copy)]
 pub enum Fields {
     At {
         name_end: usize,

@@ -1,1 +1,2 @@
 // The cut theorem: specs/Cut.antt.
+#![tactic(auto)]

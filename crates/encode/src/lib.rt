@@ -1,4 +1,5 @@
 // Layer 2: the slot as it is written. Its header and its body are lent on as parts of the one slot buffer.
+#![tactic(auto)]
 ghost use Rattle.std.specs.Prelude.{◌≡◌, ◌+◌, ◌-◌, ◌≤◌, ◌<◌, ◌^◌, ◌++◌, length, replicate};
 ghost use Rattle.codec.specs.Crc32c.{crc32c};
 ghost use Rattle.codec.specs.Cursor.{write, writtenAnswer};
@@ -10,7 +11,7 @@ use codec::codec::{Writer, Written};
 use slot::slot::SlotFields;
 
 // Why a slot could not be encoded.
-#[derive(Drop)]
+#[derive(Clone, Copy)]
 pub enum EncodeError {
     SlotSize,
     BufferLength,
@@ -20,7 +21,7 @@ pub enum EncodeError {
 }
 
 // The header CRC, which the next generation records as its `prev_header_crc32c`, or a refusal.
-#[derive(Drop)]
+#[derive(Clone, Copy)]
 pub enum Encoded {
     Crc(u32),
     Refused(EncodeError),

@@ -10,7 +10,7 @@ use codec::codec::{ReadU8, ReadU16, ReadU32, ReadU64, Reader, Writer, Written};
 use region::meta::{MetaEncoded, MetaError};
 
 // The numbers of an entry in front of its places.
-#[derive(Drop)]
+#[derive(Clone, Copy)]
 pub struct EntryFront {
     pub seq: u32,
     pub kind: u8,
@@ -23,14 +23,14 @@ pub struct EntryFront {
 }
 
 // They, or that there are fewer bytes.
-#[derive(Drop)]
+#[derive(Clone, Copy)]
 pub enum EntryFrontRead {
     Fields(EntryFront),
     Truncated,
 }
 
 // Where an entry's parts lie, from 40 on.
-#[derive(Drop)]
+#[derive(Clone, Copy)]
 pub struct EntryPlaces {
     pub header_a: u64,
     pub header_b: u64,
@@ -42,7 +42,7 @@ pub struct EntryPlaces {
 }
 
 // They, or that there are fewer bytes.
-#[derive(Drop)]
+#[derive(Clone, Copy)]
 pub enum EntryPlacesRead {
     Fields(EntryPlaces),
     Truncated,

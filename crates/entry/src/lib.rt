@@ -1,3 +1,4 @@
 // Layer 3: table entries.
+#![tactic(auto)]
 mod layout;
 pub mod meta2;

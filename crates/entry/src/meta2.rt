@@ -38,7 +38,7 @@ use region::meta::{Check, KindRead, MetaEncoded, MetaError, RegionKind};
 
 // One table entry as stored: every field, before the per-entry checks (an entry that fails them makes its region unavailable, and its
 // span is still needed, so the raw fields are always available).
-#[derive(Drop)]
+#[derive(Clone, Copy)]
 pub struct RawEntry {
     // Sequence number in the page.
     pub seq: u32,
@@ -75,14 +75,14 @@ pub struct RawEntry {
 }
 
 // An enum can hold no array: the entry stands beside the answer, zeros at a refusal.
-#[derive(Drop)]
+#[derive(Clone, Copy)]
 pub struct RawEntryRead {
     pub answer: Check,
     pub entry: RawEntry,
 }
 
 // A table entry that passed the per-entry checks. Its name stands beside it.
-#[derive(Drop)]
+#[derive(Clone, Copy)]
 pub struct Entry2 {
     pub seq: u32,
     pub kind: RegionKind,
@@ -102,42 +102,42 @@ pub struct Entry2 {
 }
 
 // The checked entry, or the first check that fails.
-#[derive(Drop)]
+#[derive(Clone, Copy)]
 pub enum Entry2Read {
     Entry(Entry2),
     Refused(MetaError),
 }
 
 // The checked entry and its name, of no bytes at a refusal.
-#[derive(Drop)]
+#[derive(Clone, Copy)]
 pub struct Checked {
     pub answer: Entry2Read,
     pub name: RegionName,
 }
 
 // A name that decodes; else none, of no bytes.
-#[derive(Drop)]
+#[derive(Clone, Copy)]
 pub struct FoundName {
     pub found: bool,
     pub name: RegionName,
 }
 
 // A kind, where the byte stands for one.
-#[derive(Drop)]
+#[derive(Clone, Copy)]
 pub enum FoundKind {
     Kind(RegionKind),
     Nothing,
 }
 
 // A name and a kind, where both decode; else neither.
-#[derive(Drop)]
+#[derive(Clone, Copy)]
 pub struct NameAndKind {
     pub kind: FoundKind,
     pub name: RegionName,
 }
 
 // What the per-entry checks need from the container.
-#[derive(Drop)]
+#[derive(Clone, Copy)]
 pub struct EntryLimits {
     // The block size's log2.
     pub log2_block: u8,

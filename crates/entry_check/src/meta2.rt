@@ -10,7 +10,7 @@ use region::meta::{Check, MetaError, RegionKind, RegionState, StateRead};
 use region::meta2::block_size;
 
 // The bytes that an entry keeps reserved, if any: start and end.
-#[derive(Drop)]
+#[derive(Clone, Copy)]
 pub enum ReservedSpan {
     Span(u64, u64),
     Nothing,

@@ -1,4 +1,5 @@
 // The examples of document 01 that are run and not proved: what the library gives beside what the paper says.
+#![tactic(auto)]
 use libc::STDOUT_FILENO;
 
 fn main() {

@@ -7,7 +7,7 @@ ghost use Rattle.frame.specs.Frame.{part_of, failedPart, partBytes};
 use slot::slot::{HeaderFacts, SlotStatus, ValidInfo};
 
 // What a frame says of one slot.
-#[derive(Drop)]
+#[derive(Clone, Copy)]
 pub struct SlotPart {
     pub code: u8,
     pub facts: u8,

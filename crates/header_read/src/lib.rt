@@ -1,5 +1,6 @@
 // Layer 2: a slot's header as it is read: its numbers in the order of the layout, then the checks of them in document 01's order, through every
 // one but the payload's CRC.
+#![tactic(auto)]
 ghost use Rattle.std.specs.Prelude.{◌≡◌, ◌+◌, ◌≤◌, length};
 ghost use Rattle.slot.specs.Status.{checkNumbers, parsedNumbers};
 ghost use Rattle.slot.specs.Read.{headerRead, headerSum, numberOk, integrity, shape, place, check, parseHeader};

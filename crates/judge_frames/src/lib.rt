@@ -14,6 +14,7 @@
 // | 0 | standing: 0 Confirmed, 1 Unconfirmed, 2 Lost, 3 Refused |
 // | 1 | winner: 0 none, 1 A, 2 B |
 // | 2, 3 | A, B: 0 Winner, 1 Nothing, 2 OlderDamaged, 3 InFlight, 4 Damage |
+#![tactic(auto)]
 ghost use Rattle.std.specs.Prelude.{◌≡◌, true, ◌++◌, ◌∷◌, [], ◌+◌, ◌*◌, ◌≤◌, ◌<◌, length, drop};
 ghost use Rattle.codec.specs.Bytes.{le32, le64};
 ghost use Rattle.frame.specs.Frame.{part_width, partFrom};

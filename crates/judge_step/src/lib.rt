@@ -5,6 +5,7 @@
 // | 0 | counts its numbers | the highest numbers |
 // | 1 | writes its first verdict | the tally, and the volume record's verdict |
 // | 2 | writes its last verdict, by the rules of the store | the write to heal |
+#![tactic(auto)]
 ghost use Rattle.std.specs.Prelude.{◌≡◌, cond, eqb};
 ghost use Rattle.verdict.specs.Judge.{refusedRow};
 ghost use Rattle.judge_step.specs.Step.{partRead, pairRead, begun, finished, carried, numberPair, judgePair, settlePair, stepped};
@@ -18,21 +19,21 @@ use verdict::verdict::{
 };
 
 // One slot as read: its status, and what its header shows.
-#[derive(Drop)]
+#[derive(Clone, Copy)]
 pub struct SlotRead {
     pub status: SlotStatus,
     pub facts: HeaderFacts,
 }
 
 // Both slots of one pair.
-#[derive(Drop)]
+#[derive(Clone, Copy)]
 pub struct PairRead {
     pub a: SlotRead,
     pub b: SlotRead,
 }
 
 // What is carried from pair to pair, and from pass to pass.
-#[derive(Drop)]
+#[derive(Clone, Copy)]
 pub struct Progress {
     // How many pairs are gone through: none where the row is refused.
     pub count: usize,
@@ -47,7 +48,7 @@ pub struct Progress {
 }
 
 // A pair's verdict, and what is carried on.
-#[derive(Drop)]
+#[derive(Clone, Copy)]
 pub struct Stepped {
     pub progress: Progress,
     pub verdict: PairVerdict,

@@ -7,14 +7,14 @@ use codec::codec::{Writer, Written};
 use region::meta::{Check, MetaError};
 
 // A region name: 1 to 24 bytes of UTF-8, no NUL bytes; zeros behind them.
-#[derive(Drop)]
+#[derive(Clone, Copy)]
 pub struct RegionName {
     pub bytes: [u8; 24],
     pub len: u8,
 }
 
 // An enum can hold no array: the name stands beside the answer, of no bytes at a refusal.
-#[derive(Drop)]
+#[derive(Clone, Copy)]
 pub struct Named {
     pub answer: Check,
     pub name: RegionName,

@@ -4,7 +4,7 @@ ghost use Rattle.name.specs.Utf8.{utf8};
 ghost use Rattle.name.specs.Steps.{tail, firstByte, nextByte};
 
 // What is still to come of a character: `left` bytes, the next one from `low` to `high`, those behind it from 80 to BF.
-#[derive(Drop)]
+#[derive(Clone, Copy)]
 pub struct Tail {
     pub left: u8,
     pub low: u8,
@@ -12,7 +12,7 @@ pub struct Tail {
 }
 
 // What a byte leaves to be read, or that it may not stand there.
-#[derive(Drop)]
+#[derive(Clone, Copy)]
 pub enum Step {
     Invalid,
     Next(Tail),

@@ -19,7 +19,7 @@ use page_entries::check_entries;
 use region::meta::{Check, MetaError};
 
 // A table page's header.
-#[derive(Drop)]
+#[derive(Clone, Copy)]
 pub struct PageHeader {
     // The page's index (must match the object id).
     pub page_index: u32,
@@ -30,7 +30,7 @@ pub struct PageHeader {
 }
 
 // A decoded page: its header, and where its entries lie in the bytes that it was decoded from.
-#[derive(Drop)]
+#[derive(Clone, Copy)]
 pub struct Page {
     pub header: PageHeader,
     pub entries_start: usize,
@@ -38,14 +38,14 @@ pub struct Page {
 }
 
 // The header, or that there are fewer than its 24 bytes.
-#[derive(Drop)]
+#[derive(Clone, Copy)]
 pub enum HeaderRead {
     Header(PageHeader),
     Truncated,
 }
 
 // The page, or why it is refused.
-#[derive(Drop)]
+#[derive(Clone, Copy)]
 pub enum PageRead {
     Page(Page),
     Refused(MetaError),

@@ -1,5 +1,6 @@
 // Layer 3: what a page asks of its entries, 96 bytes each: that their sequence numbers were given out, that no two are the same, and that
 // the bytes at 38 are zero.
+#![tactic(auto)]
 ghost use Rattle.std.specs.Prelude.{◌≡◌, ◌+◌, ◌*◌, ◌/◌, ◌≤◌, length};
 ghost use Rattle.region.specs.Error.{checkOutcome};
 ghost use Rattle.page_entries.specs.Entries.{contains, seqs, entryCheck, entriesCheck};

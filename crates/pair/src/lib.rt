@@ -1,2 +1,3 @@
 // Layer 2: the current version of a pair of slots.
+#![tactic(auto)]
 pub mod pair;

@@ -11,7 +11,7 @@ ghost use Rattle.pair.specs.Pair.{refused, explained, survivor, plain, ordered, 
 use slot::slot::{SlotIndex, SlotInfo, SlotStatus, ValidInfo};
 
 // The chosen version of a pair, if any.
-#[derive(Drop)]
+#[derive(Clone, Copy)]
 pub enum Winner {
     Empty,
     Confirmed(SlotIndex),
@@ -22,7 +22,7 @@ pub enum Winner {
 }
 
 // Both slot statuses, the decision, and the anomalies found.
-#[derive(Drop)]
+#[derive(Clone, Copy)]
 pub struct PairReport {
     pub a: SlotStatus,
     pub b: SlotStatus,
@@ -34,14 +34,14 @@ pub struct PairReport {
 }
 
 // The winning slot's facts, if a winner was chosen.
-#[derive(Drop)]
+#[derive(Clone, Copy)]
 pub enum WinnerInfo {
     Won(SlotIndex, SlotInfo),
     Nothing,
 }
 
 // Which slot the next update must write, if the pair may be written.
-#[derive(Drop)]
+#[derive(Clone, Copy)]
 pub enum NextWrite {
     Slot(SlotIndex),
     Nothing,

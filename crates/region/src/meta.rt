@@ -4,7 +4,7 @@ ghost use Rattle.region.specs.Error.{fieldNumber, errorNumber};
 ghost use Rattle.region.specs.Kind.{kindNumber, kind_of, kindOutcome, stateNumber, state_of, stateOutcome};
 
 // Why a payload failed to decode or encode.
-#[derive(Drop)]
+#[derive(Clone, Copy)]
 pub enum MetaError {
     // The payload is shorter than its fixed layout, or the output too small.
     Length,
@@ -44,21 +44,21 @@ fn field_number(number: u8) -> u8
 }
 
 // A check: passed, or the first refusal.
-#[derive(Drop)]
+#[derive(Clone, Copy)]
 pub enum Check {
     Pass,
     Fail(MetaError),
 }
 
 // How many bytes were written, or a refusal.
-#[derive(Drop)]
+#[derive(Clone, Copy)]
 pub enum MetaEncoded {
     Length(usize),
     Refused(MetaError),
 }
 
 // What a region is for.
-#[derive(Drop)]
+#[derive(Clone, Copy)]
 pub enum RegionKind {
     // Positions are allocated from a tail; blocks are never rewritten.
     Append,
@@ -69,7 +69,7 @@ pub enum RegionKind {
 }
 
 // A kind, or 33.
-#[derive(Drop)]
+#[derive(Clone, Copy)]
 pub enum KindRead {
     Kind(RegionKind),
     Refused(MetaError),
@@ -101,7 +101,7 @@ impl RegionKind {
 }
 
 // Lifecycle state of a region.
-#[derive(Drop)]
+#[derive(Clone, Copy)]
 pub enum RegionState {
     // Provisioned and usable.
     Ready,
@@ -110,7 +110,7 @@ pub enum RegionState {
 }
 
 // A state, or 34.
-#[derive(Drop)]
+#[derive(Clone, Copy)]
 pub enum StateRead {
     State(RegionState),
     Refused(MetaError),

@@ -13,6 +13,7 @@
 // | wu1 wu2 wu4 wu8 | position, value, buffer | refusal, position, buffer |
 // | wby | position, source, buffer | refusal, position, buffer |
 // | wze | position, count, buffer | refusal, position, buffer |
+#![tactic(auto)]
 use cases::hex::{Decoded, decode_field};
 use cases::line::{Fields, find, part, split};
 use cases::number::{length_at, narrow, size_at, u8_at, u16_at, u32_at, u64_at};
@@ -29,7 +30,7 @@ use store_io::cursor::{
 const NAMES: [u8; 64] = *b"crc app gap ru1 ru2 ru4 ru8 run a16 a24 wu1 wu2 wu4 wu8 wby wze ";
 
 // What came of a case: where it is equal, the number of its name.
-#[derive(Drop)]
+#[derive(Clone, Copy)]
 enum Outcome {
     Equal(usize),
     Different,
@@ -37,7 +38,7 @@ enum Outcome {
 }
 
 // The length of a packed answer. There is none where the input is shorter than its arguments, or the answer longer than its buffer.
-#[derive(Drop)]
+#[derive(Clone, Copy)]
 enum Packed {
     Bytes(usize),
     Unreadable,

@@ -15,6 +15,7 @@
 // - Verdicts have 4 bytes each. Before the judge over the row is called they are Lost, no winner, Damage and Damage.
 //
 // A refusal of the judge over frames that changes what it was lent is packed as an answer, so that the case differs.
+#![tactic(auto)]
 ghost use Rattle.std.specs.Prelude.{◌≤◌, length};
 
 use cases::hex::{Decoded, decode_field};
@@ -34,7 +35,7 @@ const FRAMES: usize = 1;
 const ROW: usize = 2;
 
 // What came of a case: where it is equal, the number of its name.
-#[derive(Drop)]
+#[derive(Clone, Copy)]
 enum Outcome {
     Equal(usize),
     Different,
@@ -42,7 +43,7 @@ enum Outcome {
 }
 
 // The length of a packed answer. There is none where the input is no case of its name, or the answer longer than its buffer.
-#[derive(Drop)]
+#[derive(Clone, Copy)]
 enum Packed {
     Bytes(usize),
     Unreadable,

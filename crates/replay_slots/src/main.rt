@@ -19,6 +19,7 @@
 // - SIDE: status (4), generation (8), header_crc32c (4), prev_header_crc32c (4).
 //
 // A refusal that changes what it was lent is packed as an answer, so that the case differs.
+#![tactic(auto)]
 ghost use Rattle.std.specs.Prelude.{◌≤◌, length};
 
 use cases::hex::{Decoded, decode_field};
@@ -33,7 +34,7 @@ use store_io::slots::{sio_encode, sio_frame_slot, sio_header_facts, sio_validate
 const NAMES: [u8; 20] = *b"enc val fac frm dec ";
 
 // What came of a case: where it is equal, the number of its name.
-#[derive(Drop)]
+#[derive(Clone, Copy)]
 enum Outcome {
     Equal(usize),
     Different,
@@ -42,7 +43,7 @@ enum Outcome {
 
 // The length of a packed answer or of an unpacked slot. There is none where the input is shorter than its arguments, or the bytes are
 // more than their buffer holds.
-#[derive(Drop)]
+#[derive(Clone, Copy)]
 enum Packed {
     Bytes(usize),
     Unreadable,

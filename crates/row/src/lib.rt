@@ -2,6 +2,7 @@
 // no host can hand over records; hosts call the judge over frames.
 //
 // A row has at most five pairs. The local arrays of records are lent to the judge in `judge_first`, all else is by value.
+#![tactic(auto)]
 ghost use Rattle.std.specs.Prelude.{◌≡◌, ◌∷◌, [], ◌*◌, ◌≤◌, length, take};
 ghost use Rattle.frame.specs.Frame.{part_width, partFrom};
 ghost use Rattle.verdict.specs.Verdict.{verdictBytes};
@@ -26,14 +27,14 @@ const FRAME: usize = 2 * PART;
 const VERDICT: usize = 4;
 
 // What the judge answers, and the verdicts as it leaves them.
-#[derive(Drop)]
+#[derive(Clone, Copy)]
 pub struct RowJudged {
     pub judged: Judged,
     pub verdicts: [PairVerdict; 5],
 }
 
 // The same with the verdicts as bytes, four a pair.
-#[derive(Drop)]
+#[derive(Clone, Copy)]
 pub struct RowAnswer {
     pub judged: Judged,
     pub verdicts: [u8; 20],

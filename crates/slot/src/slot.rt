@@ -35,7 +35,7 @@ ghost use Rattle.slot.specs.Status.{indexNumber, slotNumber, other, code, isVali
 ghost use Rattle.slot.specs.Read.{payloadStart, payloadLength};
 
 // Which slot of a pair.
-#[derive(Drop)]
+#[derive(Clone, Copy)]
 pub enum SlotIndex {
     A,
     B,
@@ -74,7 +74,7 @@ impl SlotIndex {
 }
 
 // Everything written into a slot header except the CRCs and constants.
-#[derive(Drop)]
+#[derive(Clone, Copy)]
 pub struct SlotFields {
     pub volume_uuid: [u8; 16],
     pub object_id: u64,
@@ -90,7 +90,7 @@ pub struct SlotFields {
 }
 
 // What the reader expects of a slot at a given location.
-#[derive(Drop)]
+#[derive(Clone, Copy)]
 pub struct Expect {
     pub volume_uuid: [u8; 16],
     pub object_id: u64,
@@ -102,7 +102,7 @@ pub struct Expect {
 }
 
 // Facts about a slot that passed every check.
-#[derive(Drop)]
+#[derive(Clone, Copy)]
 pub struct SlotInfo {
     pub generation: u64,
     pub owner_generation: u64,
@@ -137,7 +137,7 @@ impl SlotInfo {
 }
 
 // Result of validating one slot. ReadError is the host's.
-#[derive(Drop)]
+#[derive(Clone, Copy)]
 pub enum SlotStatus {
     ReadError,
     BadLength,
@@ -220,14 +220,14 @@ impl SlotStatus {
 }
 
 // The facts about a slot, if it is valid.
-#[derive(Drop)]
+#[derive(Clone, Copy)]
 pub enum ValidInfo {
     Info(SlotInfo),
     Nothing,
 }
 
 // What a slot's header shows, whether or not the slot is valid: nothing, its stored checksum, or the fields of a numbered slot too.
-#[derive(Drop)]
+#[derive(Clone, Copy)]
 pub enum HeaderFacts {
     Nothing,
     Stored(u32),
@@ -235,7 +235,7 @@ pub enum HeaderFacts {
 }
 
 // The header fields of a numbered slot.
-#[derive(Drop)]
+#[derive(Clone, Copy)]
 pub struct NumberedHeader {
     pub generation: u64,
     pub meta_seq: u64,
@@ -243,7 +243,7 @@ pub struct NumberedHeader {
 }
 
 // The numbers of a header as stored, nothing of them checked.
-#[derive(Drop)]
+#[derive(Clone, Copy)]
 pub struct RawHeader {
     pub header_crc32c: u32,
     pub header_len: u16,
@@ -267,21 +267,21 @@ pub struct RawHeader {
 }
 
 // The header, or that there are fewer than its 128 bytes.
-#[derive(Drop)]
+#[derive(Clone, Copy)]
 pub enum HeaderRead {
     Header(RawHeader),
     Truncated,
 }
 
 // A check of a header: passed, or the first status that fails.
-#[derive(Drop)]
+#[derive(Clone, Copy)]
 pub enum Check {
     Pass,
     Fail(SlotStatus),
 }
 
 // A header that passed every check up to the payload CRC: what is valid of it, and the payload's CRC as stored.
-#[derive(Drop)]
+#[derive(Clone, Copy)]
 pub enum Parsed {
     Passed(SlotInfo, u32),
     Failed(SlotStatus),

@@ -1,1 +1,2 @@
 // Document 01's starred examples: proofs/Starred.antt.
+#![tactic(auto)]

@@ -1,4 +1,5 @@
 // The lines that program `verdicts` prints: a line a pair, then one line for the store; or the line of a refusal.
+#![tactic(auto)]
 ghost use Rattle.std.specs.Prelude.{◌≡◌, ◌+◌, ◌*◌, ◌≤◌, ◌<◌, length, get_or};
 ghost use Rattle.codec.specs.Bytes.{put, putWhole};
 ghost use Rattle.judge_frames.specs.Frames.{verdictWidth};

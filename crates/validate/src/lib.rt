@@ -1,4 +1,5 @@
 // Layer 2: what one slot's bytes hold: its status, and what its header shows whether or not the slot is valid.
+#![tactic(auto)]
 ghost use Rattle.std.specs.Prelude.{◌≡◌, ◌≤◌, length, take};
 ghost use Rattle.codec.specs.Bytes.{same, allZero};
 ghost use Rattle.slot.specs.Status.{statusNumbers, factsNumbers};

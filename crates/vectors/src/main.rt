@@ -1,5 +1,6 @@
 // RFC 3720's examples of CRC-32C (B.4), and the check value of the digits 1 to 9: what the checksum gives beside what the RFC says,
 // both in the RFC's order of bytes.
+#![tactic(auto)]
 ghost use Rattle.std.specs.Prelude.{◌<◌};
 
 use libc::STDOUT_FILENO;

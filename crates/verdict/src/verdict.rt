@@ -15,7 +15,7 @@ use candidate::pairs::{Opposite, PairCase};
 use slot::slot::SlotIndex;
 
 // What became of one slot.
-#[derive(Drop)]
+#[derive(Clone, Copy)]
 pub enum SlotVerdict {
     // The pair's current version.
     Winner,
@@ -30,7 +30,7 @@ pub enum SlotVerdict {
 }
 
 // A pair's standing.
-#[derive(Drop)]
+#[derive(Clone, Copy)]
 pub enum Standing {
     // The winner is the latest committed version.
     Confirmed,
@@ -43,14 +43,14 @@ pub enum Standing {
 }
 
 // The winning slot: none where the pair is Lost or Refused.
-#[derive(Drop)]
+#[derive(Clone, Copy)]
 pub enum WinnerSlot {
     Nothing,
     Slot(SlotIndex),
 }
 
 // The verdict on one pair.
-#[derive(Drop)]
+#[derive(Clone, Copy)]
 pub struct PairVerdict {
     pub standing: Standing,
     pub winner: WinnerSlot,
@@ -59,7 +59,7 @@ pub struct PairVerdict {
 }
 
 // What the first pass counts.
-#[derive(Drop)]
+#[derive(Clone, Copy)]
 pub struct Tally {
     // Candidates that qualify: none, one, or 2 for several.
     pub candidates: usize,
@@ -71,7 +71,7 @@ pub struct Tally {
 }
 
 // The rules of the whole store, for the second pass.
-#[derive(Drop)]
+#[derive(Clone, Copy)]
 pub struct StoreRules {
     // The clean mark holds: every candidate is judged as damage.
     pub clean: bool,
@@ -80,14 +80,14 @@ pub struct StoreRules {
 }
 
 // The torn write to heal: its pair and its slot.
-#[derive(Drop)]
+#[derive(Clone, Copy)]
 pub enum Heal {
     Nothing,
     Slot(usize, SlotIndex),
 }
 
 // The verdict on the whole store.
-#[derive(Drop)]
+#[derive(Clone, Copy)]
 pub struct Judgement {
     pub heal: Heal,
     // A writable open may proceed.
@@ -99,7 +99,7 @@ pub struct Judgement {
 }
 
 // The judgement, or the number of a refusal.
-#[derive(Drop)]
+#[derive(Clone, Copy)]
 pub enum Judged {
     // 8 no pair, 9 another number of verdicts, 10 no whole frames or a value out of range.
     Refusal(u8),

@@ -1,4 +1,5 @@
 // The text of program `verdicts`: what it prints for what it reads, as a function on slices.
+#![tactic(auto)]
 ghost use Rattle.std.specs.Prelude.{◌≡◌, ◌+◌, ◌*◌, ◌≤◌, length};
 ghost use Rattle.codec.specs.Bytes.{put};
 ghost use Rattle.cases.specs.Hex.{is_some, decodeAnswer, decodeOut};
@@ -28,7 +29,7 @@ const PAIRS: usize = 624;
 const ROOM: usize = PAIRS * VERDICT_LINE + LAST_LINE;
 
 // What became of an answer.
-#[derive(Drop)]
+#[derive(Clone, Copy)]
 pub enum Responded {
     // The number of bytes that were written to the start of the output.
     Bytes(usize),

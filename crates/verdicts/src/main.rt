@@ -1,4 +1,5 @@
 // Judges a store by the frames of its pairs (document 01, "Store verdict"). The text is verdict_text's, this reads and writes it.
+#![tactic(auto)]
 use cases::line::part;
 use libc::{STDIN_FILENO, STDOUT_FILENO};
 use verdict_text::Responded;

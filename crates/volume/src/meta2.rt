@@ -22,7 +22,7 @@ use volume_base::meta::{VolumeMeta, VolumeMetaRead};
 use volume_tail::{RawTail, RawTailRead, read_tail, write_tail};
 
 // The format-2 volume record.
-#[derive(Drop)]
+#[derive(Clone, Copy)]
 pub struct VolumeMeta2 {
     // Format 1's fields (`table_offset` is two blocks; `features` 0).
     pub base: VolumeMeta,
@@ -37,14 +37,14 @@ pub struct VolumeMeta2 {
 }
 
 // The record, or the first check that fails.
-#[derive(Drop)]
+#[derive(Clone, Copy)]
 pub enum VolumeMeta2Read {
     Record(VolumeMeta2),
     Refused(MetaError),
 }
 
 // Where the table ends, or a refusal.
-#[derive(Drop)]
+#[derive(Clone, Copy)]
 pub enum TableEnd {
     At(u64),
     Refused(MetaError),

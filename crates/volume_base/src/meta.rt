@@ -22,7 +22,7 @@ use region::meta::{Check, MetaEncoded, MetaError};
 use region::meta2::block_size;
 
 // The volume record: geometry and ownership of one container.
-#[derive(Drop)]
+#[derive(Clone, Copy)]
 pub struct VolumeMeta {
     // Block (slot) size as a power of two; every slot and region is aligned to it.
     pub log2_block_size: u8,
@@ -41,7 +41,7 @@ pub struct VolumeMeta {
 }
 
 // The fields as they are stored, and what must be zero.
-#[derive(Drop)]
+#[derive(Clone, Copy)]
 pub struct RawVolumeMeta {
     pub fields: VolumeMeta,
     pub reserved0: u32,
@@ -49,14 +49,14 @@ pub struct RawVolumeMeta {
 }
 
 // They, or that there are fewer bytes.
-#[derive(Drop)]
+#[derive(Clone, Copy)]
 pub enum RawVolumeMetaRead {
     Fields(RawVolumeMeta),
     Truncated,
 }
 
 // The record, or the first check that fails.
-#[derive(Drop)]
+#[derive(Clone, Copy)]
 pub enum VolumeMetaRead {
     Record(VolumeMeta),
     Refused(MetaError),

@@ -1,4 +1,5 @@
 // Layer 3: the 16 bytes behind the base of a volume record of format 2, by their layout. Nothing of them is checked.
+#![tactic(auto)]
 ghost use Rattle.std.specs.Prelude.{◌≡◌};
 ghost use Rattle.codec.specs.Bytes.{putWhole};
 ghost use Rattle.codec.specs.Cursor.{write, writtenAnswer};
@@ -7,7 +8,7 @@ ghost use Rattle.volume_tail.specs.Tail.{tailRead, tail_bytes};
 use codec::codec::{ReadU8, ReadU16, ReadU32, Reader, Writer, Written};
 
 // The fields behind the base as they are stored.
-#[derive(Drop)]
+#[derive(Clone, Copy)]
 pub struct RawTail {
     pub table_pages: u32,
     pub entries_per_page: u16,
@@ -18,7 +19,7 @@ pub struct RawTail {
 }
 
 // They, or that there are fewer bytes.
-#[derive(Drop)]
+#[derive(Clone, Copy)]
 pub enum RawTailRead {
     Fields(RawTail),
     Truncated,

@@ -1,4 +1,5 @@
 // Layer 2: the winner's payload, as a part of slot A's or slot B's bytes, and the report beside it as numbers.
+#![tactic(auto)]
 ghost use Rattle.std.specs.Prelude.{◌≡◌};
 ghost use Rattle.slot.specs.Status.{statusValues};
 ghost use Rattle.pair.specs.Pair.{winnerInfo};
