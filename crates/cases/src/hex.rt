@@ -45,6 +45,7 @@ pub fn decode_field(text: &[u8], out: &mut [u8]) -> Decoded
 }
 
 // The value of a digit, 16 for any other character.
+#[tactic(auto, unfolding(crate::specs::Hex::hexValue))]
 fn digit(c: u8) -> u8
     ensures { result ≡ hexValue c }
 {

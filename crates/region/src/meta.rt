@@ -88,6 +88,7 @@ impl RegionKind {
     }
 
     // The kind of a stored byte.
+    #[tactic(auto, unfolding(crate::specs::Kind::kind_of))]
     pub fn from_u8(v: u8) -> KindRead
         ensures { kindOutcome result ≡ kind_of v }
     {
@@ -128,6 +129,7 @@ impl RegionState {
     }
 
     // The state of a stored byte.
+    #[tactic(auto, unfolding(crate::specs::Kind::state_of))]
     pub fn from_u8(v: u8) -> StateRead
         ensures { stateOutcome result ≡ state_of v }
     {

@@ -17,6 +17,7 @@ pub fn entries_per_page(log2_table: u8) -> u16
     ((size - 128 - 24) / 96) as u16
 }
 
+#[tactic(auto, unfolding(crate::specs::Block::clamp))]
 fn clamped(log2: u8) -> u8
     ensures { (result ≡ clamp log2) × (12 ≤ result) × (result ≤ 16) }
 {
