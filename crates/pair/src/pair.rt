@@ -95,6 +95,7 @@ impl PairReport {
 }
 
 // Decides the winner of a pair from the two validated slot statuses.
+#[tactic(auto, unfolding(crate::specs::Pair::decide))]
 pub fn decide(a: SlotStatus, b: SlotStatus) -> PairReport
     ensures value { result ≡ decide a b }
     ensures result_value { reportNumbers result ≡ reportNumbers (decide a b) }
