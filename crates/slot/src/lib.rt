@@ -1,3 +1,4 @@
 // Layer 2: the slot's types, with the questions to them.
 #![tactic(auto)]
+
 pub mod slot;

@@ -1,5 +1,5 @@
 -- `all_zero` meets its contract. The loop's invariant: what was found so far, and what is left of the list, give the answer of the whole.
-use Rattle.std.proofs.Common.{drop, length, ◌-◌, ◌≡◌, cond, false, eqb, ℕ, ◌+◌, ◌*◌, ◌<◌, ◌≤◌}
+use Rattle.std.proofs.Common.{drop, length, ◌-◌, ◌≡◌, cond, false, ◌≤◌}
 use Rattle.codec.specs.Bytes.{allZero}
 use Rattle.codec.proofs.bytes.all_zero.Given as goal
 

@@ -1,5 +1,5 @@
 -- `same` meets its contract. The loop's invariant: what was found so far, and what is left of the two lists, give the answer of the whole.
-use Rattle.std.proofs.Common.{drop, length, ◌-◌, ◌≡◌, cond, false, eqb, ℕ, ◌+◌, ◌*◌, ◌<◌, ◌≤◌}
+use Rattle.std.proofs.Common.{drop, length, ◌-◌, ◌≡◌, cond, false, ◌≤◌}
 use Rattle.codec.specs.Bytes.{same}
 use Rattle.codec.proofs.bytes.same.Given as goal
 

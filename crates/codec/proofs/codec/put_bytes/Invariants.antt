@@ -1,5 +1,5 @@
 -- `put_bytes` meets its contract. The loop's invariant: the list with the first `done` bytes of src pasted in.
-use Rattle.std.proofs.Common.{length, ◌-◌, ◌≡◌, ◌+◌, ◌≤◌, ◌<◌, take, drop, replicate, ℕ, ◌*◌}
+use Rattle.std.proofs.Common.{length, ◌-◌, ◌≡◌, ◌≤◌}
 use Rattle.std.proofs.Math.Seq.{paste}
 use Rattle.codec.proofs.codec.put_bytes.Given as goal
 

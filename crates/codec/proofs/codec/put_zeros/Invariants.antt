@@ -1,5 +1,5 @@
 -- `put_zeros` meets its contract. The loop's invariant: the list with the first `done` of n zeros pasted in.
-use Rattle.std.proofs.Common.{◌-◌, ◌≡◌, ◌+◌, ◌≤◌, ◌<◌, length, take, drop, replicate, ℕ, ◌*◌}
+use Rattle.std.proofs.Common.{◌-◌, ◌≡◌, ◌≤◌, length, replicate}
 use Rattle.std.proofs.Math.Seq.{paste}
 use Rattle.codec.proofs.codec.put_zeros.Given as goal
 

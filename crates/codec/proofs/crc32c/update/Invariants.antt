@@ -1,6 +1,6 @@
 -- `codec::crc32c::update` meets its contract. The loop's invariant: what is left of the bytes takes the register to where all of them
 -- take the first one.
-use Rattle.std.proofs.Common.{drop, length, ◌-◌, ◌≡◌, ◌++◌, replicate, ℕ, ◌+◌, ◌*◌, ◌<◌, ◌≤◌}
+use Rattle.std.proofs.Common.{drop, length, ◌-◌, ◌≡◌, ◌≤◌}
 use Rattle.codec.specs.Register.{register}
 use Rattle.codec.proofs.crc32c.update.Given as goal
 

@@ -1,5 +1,5 @@
 -- `codec::crc32c::update_zeros` meets its contract. The loop is that of `update` over a list of zeros.
-use Rattle.std.proofs.Common.{drop, ◌-◌, ◌≡◌, ◌++◌, replicate, ℕ, ◌+◌, ◌*◌, ◌<◌, ◌≤◌, length}
+use Rattle.std.proofs.Common.{drop, ◌-◌, ◌≡◌, replicate, ◌≤◌}
 use Rattle.codec.specs.Register.{register}
 use Rattle.codec.proofs.crc32c.update_zeros.Given as goal
 

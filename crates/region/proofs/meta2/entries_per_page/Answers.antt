@@ -1,5 +1,5 @@
 -- `entries_per_page` meets its contract: a block has room for both headers.
-use Rattle.std.proofs.Common.{arith, rules}
+use Rattle.std.proofs.Common.{arith}
 use Rattle.region.specs.Block.{entriesPerPage}
 use Rattle.region.proofs.BlockLaws.{block-low, block-high}
 use Rattle.region.proofs.meta2.entries_per_page.Goals as goal
@@ -16,4 +16,3 @@ overflow_cast-result c = omega (arith, c.block_size-size.ensures, block-high c.a
 pub returns : goal.returns
 unfolding entriesPerPage
 returns c = rw c.block_size-size.ensures
-
