@@ -1,11 +1,5 @@
 -- A slot's part of a frame: what it is filled with is in range and fits its fields, and its bytes decode to it, whatever follows them.
-use mathlib.Core.Path.{◌≡◌, refl}
-use mathlib.Core.List.{List, [], ◌∷◌, ◌++◌}
-use Prim.Native.Nat.{ℕ, ◌^◌, ◌≤◌, ◌<◌}
-use native.Mathlib.Omega.{arith}
-use lib.Dec.{lit≤, lit<}
-use lib.ListN.{length, drop, length-append}
-use lib.Seq.{drop_at}
+use Rattle.std.proofs.Common.{◌≡◌, refl, List, [], ◌∷◌, ◌++◌, ℕ, ◌^◌, ◌≤◌, ◌<◌, arith, lit≤, lit<, length, drop, length-append, drop_at}
 use Rattle.codec.proofs.CursorLaws.{length-bytes}
 use Rattle.codec.proofs.FieldLaws.{Field, byte, number, row, ◌&◌, nil, At, ReadAt, row_read}
 use Rattle.slot.specs.Status.{code, validInfo}
