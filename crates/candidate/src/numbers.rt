@@ -75,6 +75,7 @@ pub fn note_pair(m: Maxima, p: PairPart) -> Maxima
 }
 
 // The highest number but for one slot that holds `v`.
+#[tactic(auto, unfolding(crate::specs::Maxima::othersMax))]
 fn others_max(m: Maxima, v: u64) -> u64
     ensures { result ≡ othersMax m v }
 {

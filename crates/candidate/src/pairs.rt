@@ -45,6 +45,7 @@ pub enum PairCase {
 }
 
 // The number a slot counts for: it is Valid, or its header passes every check and its payload fails its checksum.
+#[tactic(auto, unfolding(crate::specs::Pairs::numbered))]
 pub fn numbered(s: SlotPart) -> MetaSeq
     ensures { result ≡ numbered s }
 {
@@ -59,6 +60,7 @@ pub fn numbered(s: SlotPart) -> MetaSeq
     MetaSeq::Nothing
 }
 
+#[tactic(auto, unfolding(crate::specs::Pairs::badPayload))]
 fn bad_payload(winner: SlotPart, other: SlotPart) -> Opposite
     ensures { result ≡ badPayload winner other }
 {
@@ -80,6 +82,7 @@ fn bad_payload(winner: SlotPart, other: SlotPart) -> Opposite
     }
 }
 
+#[tactic(auto, unfolding(crate::specs::Pairs::badHeader))]
 fn bad_header(winner: SlotPart, other: SlotPart) -> Opposite
     ensures { result ≡ badHeader winner other }
 {
@@ -95,6 +98,7 @@ fn bad_header(winner: SlotPart, other: SlotPart) -> Opposite
 }
 
 // Only B can be blank beside a winner, and only beside a first write.
+#[tactic(auto, unfolding(crate::specs::Pairs::blank))]
 fn blank(index: SlotIndex, winner: SlotPart) -> Opposite
     ensures { result ≡ blank index winner }
 {
@@ -111,6 +115,7 @@ fn blank(index: SlotIndex, winner: SlotPart) -> Opposite
 }
 
 // The slot opposite the one valid slot, which is the winner's at `index`.
+#[tactic(auto, unfolding(crate::specs::Pairs::oppositeSlot))]
 fn opposite_slot(index: SlotIndex, winner: SlotPart, other: SlotPart) -> Opposite
     ensures { result ≡ oppositeSlot index winner other }
 {
@@ -126,6 +131,7 @@ fn opposite_slot(index: SlotIndex, winner: SlotPart, other: SlotPart) -> Opposit
     Opposite::Damage
 }
 
+#[tactic(auto, unfolding(crate::specs::Pairs::unsupported))]
 fn unsupported(s: SlotPart) -> bool
     ensures { result ≡ unsupported s }
 {
@@ -136,6 +142,7 @@ fn unsupported(s: SlotPart) -> bool
 }
 
 // Two valid slots: equal generations are a fork.
+#[tactic(auto, unfolding(crate::specs::Pairs::newer))]
 fn newer(a: SlotPart, b: SlotPart) -> PairCase
     ensures { result ≡ newer a b }
 {
@@ -150,6 +157,7 @@ fn newer(a: SlotPart, b: SlotPart) -> PairCase
 }
 
 // What the slots of a pair show.
+#[tactic(auto, unfolding(crate::specs::Pairs::pairCase))]
 pub fn pair_case(p: PairPart) -> PairCase
     ensures { result ≡ pairCase p }
 {
