@@ -1,13 +1,7 @@
 -- The passes as the code makes them are those of the definition: a candidate's number is the one its slot counts for, so the code's
 -- rule and document 01's agree on every pair; the tally kept from pair to pair gives the rules that the whole row's gives, since only
 -- whether its count is 1 is asked; and the slot to heal found from pair to pair is the last in flight.
-use mathlib.Core.Path.{◌≡◌, refl, ap, ◌∙◌, subst}
-use mathlib.Core.Bool.{Bool, true, false, cond}
-use mathlib.Core.List.{List, [], ◌∷◌}
-use Prim.Native.Nat.{ℕ, suc, ◌+◌, ◌*◌, ◌≤◌, min}
-use native.Mathlib.Nat.{zero-add}
-use native.Mathlib.Omega.{arith}
-use lib.Dec.{eqb, ltb}
+use Rattle.std.proofs.Common.{◌≡◌, refl, ap, ◌∙◌, subst, Bool, true, false, cond, List, [], ◌∷◌, ℕ, suc, ◌+◌, ◌*◌, ◌≤◌, min, zero-add, arith, eqb, ltb}
 use Rattle.slot.specs.declared.slot.SlotIndex.{SlotIndex}
 use Rattle.slot.specs.Status.{other}
 use Rattle.frame.specs.declared.frame.SlotPart.{SlotPart}

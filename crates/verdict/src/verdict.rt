@@ -298,6 +298,7 @@ pub fn tallied(t: Tally, volume: bool, case: PairCase, v: PairVerdict) -> Tally
 // ---- the second pass
 
 // A clean mark counts if the volume record is Confirmed and has no candidate of its own.
+#[tactic(auto, unfolding(crate::specs::Judge::cleanMark))]
 fn clean_mark(clean: bool, volume: PairVerdict) -> bool
     ensures { result ≡ cleanMark clean volume }
 {
@@ -322,6 +323,7 @@ fn unless_one(candidates: usize, flag: bool) -> bool
 }
 
 // The rules of the store, from the first pass: its tally and the volume record's verdict.
+#[tactic(auto, unfolding(crate::specs::Judge::storeRules))]
 pub fn store_rules(clean: bool, t: Tally, volume: PairVerdict) -> StoreRules
     ensures { result ≡ storeRules clean t volume }
 {
@@ -348,6 +350,7 @@ fn demoted_slot(v: SlotVerdict) -> SlotVerdict
 }
 
 // A slot in flight becomes Damage, and its pair Unconfirmed.
+#[tactic(auto, unfolding(crate::specs::Judge::demoted))]
 pub fn demoted(demote: bool, v: PairVerdict) -> PairVerdict
     ensures { result ≡ demoted demote v }
 {
@@ -384,6 +387,7 @@ pub fn last_verdict(
 }
 
 // The heal so far, or the write in flight of this pair.
+#[tactic(auto, unfolding(crate::specs::Passes::healOf, crate::specs::Judge::pairHeal))]
 pub fn heal_of(pair: usize, before: Heal, v: PairVerdict) -> Heal
     ensures { result ≡ healOf pair before v }
 {
@@ -399,6 +403,7 @@ pub fn heal_of(pair: usize, before: Heal, v: PairVerdict) -> Heal
 }
 
 // Whether the store may be written, by the volume record's standing after each pass.
+#[tactic(auto, unfolding(crate::specs::Judge::writable))]
 pub fn writable(t: Tally, first: Standing, last: Standing) -> bool
     ensures { result ≡ writable t.refused t.page_had_candidate first last }
 {
