@@ -1,6 +1,7 @@
 // Layer 2: a slot's header as it is read: its numbers in the order of the layout, then the checks of them in document 01's order, through every
 // one but the payload's CRC.
 #![tactic(auto)]
+
 ghost use Rattle.std.specs.Prelude.{◌≡◌, ◌+◌, ◌≤◌, length};
 ghost use Rattle.slot.specs.Status.{checkNumbers, parsedNumbers};
 ghost use Rattle.slot.specs.Read.{headerRead, headerSum, numberOk, integrity, shape, place, check, parseHeader};
@@ -9,6 +10,7 @@ use codec::codec::{ReadBytes, ReadU8, ReadU16, ReadU32, ReadU64, Reader};
 use slot::slot::{Check, Expect, HeaderRead, Parsed, RawHeader, SlotInfo, SlotStatus};
 
 // Field-by-field validation after the blank check, through every check but the payload CRC.
+#[tactic(auto, unfolding(slot::specs::Read::headerRead, slot::specs::Read::parseHeader))]
 pub fn parse_header(slot: &[u8], e: Expect) -> Parsed
     ensures value { result ≡ parseHeader slot.now e }
     ensures result_value { parsedNumbers result ≡ parsedNumbers (parseHeader slot.now e) }
@@ -130,6 +132,7 @@ fn read_header(slot: &[u8]) -> HeaderRead
 }
 
 // The checks of a header in their order.
+#[tactic(auto, unfolding(slot::specs::Read::check))]
 fn check_header(slot: &[u8], h: RawHeader, e: Expect) -> Check
     requires { 128 ≤ length slot.now }
     ensures value { result ≡ check slot.now h e }
@@ -147,6 +150,7 @@ fn check_header(slot: &[u8], h: RawHeader, e: Expect) -> Check
 }
 
 // Magic, header length and checksum; then whether the format and the flags are known.
+#[tactic(auto, using(slot::proofs::ReadLaws::tests), unfolding(slot::specs::Read::integrity))]
 fn check_integrity(slot: &[u8], h: RawHeader, format_major: u16) -> Check
     requires { 128 ≤ length slot.now }
     ensures value { result ≡ integrity slot.now h format_major }
@@ -183,6 +187,7 @@ fn check_integrity(slot: &[u8], h: RawHeader, format_major: u16) -> Check
 }
 
 // The CRC of the header, its own field counted as zero.
+#[tactic(auto, unfolding(slot::specs::Read::headerSum))]
 fn header_sum(slot: &[u8], header_len: u16) -> u32
     requires { (128 ≤ header_len) × (header_len ≤ length slot.now) }
     ensures { result ≡ headerSum slot.now header_len }
@@ -192,6 +197,7 @@ fn header_sum(slot: &[u8], header_len: u16) -> u32
 }
 
 // Fields that hold impossible values.
+#[tactic(auto, using(slot::proofs::ReadLaws::tests), unfolding(slot::specs::Read::shape))]
 fn check_shape(slot: &[u8], h: RawHeader, numbered: bool) -> Check
     requires { 128 ≤ length slot.now }
     ensures value { result ≡ shape slot.now h numbered }
@@ -227,6 +233,7 @@ fn check_shape(slot: &[u8], h: RawHeader, numbered: bool) -> Check
 }
 
 // The number is at least 1 in format 2 read as numbered, else 0.
+#[tactic(auto, unfolding(slot::specs::Read::numberOk))]
 fn number_ok(format_major: u16, numbered: bool, meta_seq: u64) -> bool
     ensures { result ≡ numberOk format_major numbered meta_seq }
 {
@@ -239,6 +246,7 @@ fn number_ok(format_major: u16, numbered: bool, meta_seq: u64) -> bool
 }
 
 // Volume, object, place, and that the payload fits.
+#[tactic(auto, using(slot::proofs::ReadLaws::tests), unfolding(slot::specs::Read::place))]
 fn check_place(slot: &[u8], h: RawHeader, e: Expect) -> Check
     requires { 128 ≤ length slot.now }
     ensures value { result ≡ place slot.now h e }
