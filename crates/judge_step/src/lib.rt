@@ -6,6 +6,7 @@
 // | 1 | writes its first verdict | the tally, and the volume record's verdict |
 // | 2 | writes its last verdict, by the rules of the store | the write to heal |
 #![tactic(auto)]
+
 ghost use Rattle.std.specs.Prelude.{◌≡◌, cond, eqb};
 ghost use Rattle.verdict.specs.Judge.{refusedRow};
 ghost use Rattle.judge_step.specs.Step.{partRead, pairRead, begun, finished, carried, numberPair, judgePair, settlePair, stepped};
@@ -99,6 +100,7 @@ fn carried(s: Progress, maxima: Maxima, tally: Tally, volume: PairVerdict, heal:
     }
 }
 
+#[tactic(auto, unfolding(crate::specs::Step::numberPair))]
 fn number_pair(s: Progress, p: PairPart) -> Progress
     ensures { result ≡ numberPair s p }
 {
@@ -116,6 +118,7 @@ fn volume_verdict(first: bool, verdict: PairVerdict, known: PairVerdict) -> Pair
 }
 
 // The first verdict; `first`: it is the volume record's, which is kept.
+#[tactic(auto, unfolding(crate::specs::Step::judgePair))]
 fn judge_pair(s: Progress, first: bool, p: PairPart) -> Stepped
     ensures { result ≡ judgePair s first p }
 {
@@ -132,6 +135,7 @@ fn judge_pair(s: Progress, first: bool, p: PairPart) -> Stepped
 }
 
 // The last verdict, from the first one, and the heal.
+#[tactic(auto, unfolding(crate::specs::Step::settlePair))]
 fn settle_pair(s: Progress, i: usize, v: PairVerdict) -> Stepped
     ensures { result ≡ settlePair s i v }
 {
@@ -155,6 +159,7 @@ fn demotes(first: bool, volume: bool, page: bool) -> bool
 }
 
 // The pair at `i` of the row, with the verdict that stands there, in one pass.
+#[tactic(auto, unfolding(crate::specs::Step::stepped))]
 pub fn step(pass: u8, s: Progress, i: usize, p: PairRead, v: PairVerdict) -> Stepped
     ensures { result ≡ stepped pass s i p v }
 {
@@ -174,6 +179,7 @@ pub fn step(pass: u8, s: Progress, i: usize, p: PairRead, v: PairVerdict) -> Ste
 // ---- before the first pair, and after the last
 
 // 8 no pair, 9 another number of verdicts, 0 where the row is not refused.
+#[tactic(auto, unfolding(verdict::specs::Judge::refusedRow))]
 fn refused_row(pairs: usize, verdicts: usize) -> u8
     ensures { result ≡ refusedRow pairs verdicts }
 {
@@ -197,6 +203,7 @@ fn admitted(refusal: u8, pairs: usize) -> usize
 }
 
 // What is carried to the first pair.
+#[tactic(auto, unfolding(crate::specs::Step::begun))]
 pub fn begin(pairs: usize, verdicts: usize, clean_close: bool) -> Progress
     ensures { result ≡ begun pairs verdicts clean_close }
 {
@@ -231,6 +238,7 @@ pub fn begin(pairs: usize, verdicts: usize, clean_close: bool) -> Progress
 }
 
 // The refusal, or the judgement from what the passes left.
+#[tactic(auto, unfolding(crate::specs::Step::finished))]
 pub fn finish(s: Progress) -> Judged
     ensures { result ≡ finished s }
 {
