@@ -1,13 +1,8 @@
 -- The steps accept what the grammar gives, and nothing else: a first byte is in the first range of at most one alternative, and what is then
 -- still to come are the other ranges of this one.
-use mathlib.Core.Path.{◌≡◌, refl, sym, ap, ◌∙◌}
-use mathlib.Core.Bool.{Bool, true, false, ◌&&◌, ◌||◌, and-eq-true_iff, and-false, false≢true, or-false}
-use mathlib.Core.List.{List, [], ◌∷◌}
-use Prim.Native.Nat.{ℕ, zero, suc, ◌-◌, ◌≤◌}
-use native.Mathlib.Omega.{arith}
-use borrow.Author.Tests.{ne_eqb, lt-ltb, le-ltb, le-leb, lt-leb, ltb-true}
-use lib.Dec.{ltb, eqb}
-use lib.ListN.{length, get_or, take, drop, replicate, length-drop}
+use Rattle.std.proofs.Common.{◌≡◌, refl, sym, ap, ◌∙◌, Bool, true, false, ◌&&◌, ◌||◌, List, [], ◌∷◌, ℕ, zero, suc, ◌-◌, ◌≤◌, arith, ne_eqb, lt-ltb, le-ltb, le-leb, ltb-true, ltb, eqb, length, get_or, take, drop, replicate, length-drop}
+use Rattle.std.proofs.Math.Bool.{and-eq-true_iff, and-false, false≢true, or-false}
+use borrow.Author.Tests.{lt-leb}
 use Rattle.name.specs.Utf8.{Range, utf8Tail, utf8Char, begins, some, utf8Octets, utf8}
 use Rattle.name.specs.Steps.{tail, firstByte, nextByte, steps, complete, accepted}
 use Rattle.name.specs.declared.utf8.Step.{Step}

@@ -1,11 +1,6 @@
 -- The bytes of a row of the grammar are the encoding of a scalar value, and a scalar value's encoding fits one of the rows: the value is computed
 -- from the bytes, and the row goes by the range that the value is in.
-use mathlib.Core.Path.{◌≡◌, sym, ◌∙◌}
-use mathlib.Core.List.{List, [], ◌∷◌}
-use Prim.Native.Nat.{ℕ, ◌+◌, ◌-◌, ◌*◌, ◌/◌, ◌%◌, ◌≤◌, ◌<◌}
-use native.Mathlib.Omega.{arith}
-use borrow.Author.Tests.{lt-ltb, le-ltb}
-use lib.ListN.{length, get_or}
+use Rattle.std.proofs.Common.{◌≡◌, sym, ◌∙◌, List, [], ◌∷◌, ℕ, ◌+◌, ◌-◌, ◌*◌, ◌/◌, ◌%◌, ◌≤◌, ◌<◌, arith, lt-ltb, le-ltb, length, get_or}
 use Rattle.name.specs.Utf8.{Range, utf8Tail, utf8Char}
 use Rattle.name.specs.Scalar.{encode, Scalar}
 use Rattle.name.proofs.Tests.{by-below}

@@ -1,13 +1,7 @@
 -- Laws of region names: what an accepted name is, and that storing a name and reading it back are inverse to each other.
-use mathlib.Core.Path.{◌≡◌, refl, sym, ap, ◌∙◌}
-use mathlib.Core.Bool.{Bool, true, false, cond, not}
-use mathlib.Core.List.{List, [], ◌∷◌, ◌++◌}
-use Prim.Native.Nat.{ℕ, zero, suc, ◌+◌, ◌-◌, ◌≤◌}
-use native.Mathlib.Omega.{arith}
-use borrow.Author.Tests.{eq-eqb, ne_eqb, le-ltb, eqb-true, eqb-false, ltb-false, not-false}
-use lib.Dec.{ltb, eqb}
-use lib.ListN.{length, take, drop, replicate, length-drop, length-replicate, replicate-append-replicate, take-append-drop}
-use lib.Seq.{length-take-le, take_at, drop_at}
+use Rattle.std.proofs.Common.{◌≡◌, refl, sym, ap, ◌∙◌, Bool, true, false, cond, not, List, [], ◌∷◌, ◌++◌, ℕ, zero, suc, ◌+◌, ◌-◌, ◌≤◌, arith, eq-eqb, ne_eqb, le-ltb, eqb-true, ltb-false, ltb, eqb, length, take, drop, replicate, length-drop, take-append-drop, length-take-le, take_at, drop_at}
+use borrow.Author.Tests.{eqb-false, not-false}
+use Rattle.std.proofs.Math.ListN.{length-replicate, replicate-append-replicate}
 use Rattle.codec.specs.Bytes.{allZero, put}
 use Rattle.codec.specs.Outcome.{given, refusal}
 use Rattle.codec.proofs.CursorLaws.{put-prefix}

@@ -1,12 +1,6 @@
 -- Rows of ranges: the bytes that fit a row, and the rows of a table of which a test holds.
-use mathlib.Core.Path.{◌≡◌, refl}
-use mathlib.Core.Bool.{Bool, true, false, ◌&&◌, ◌||◌, and-eq-true_iff, or-true, false≢true}
-use mathlib.Core.List.{List, [], ◌∷◌, ◌++◌}
-use Prim.Native.Nat.{ℕ, zero, suc, ◌≤◌, ◌<◌}
-use native.Mathlib.Omega.{arith}
-use borrow.Author.Tests.{le-leb, leb-true}
-use lib.Dec.{leb}
-use lib.ListN.{length, get_or, take, drop}
+use Rattle.std.proofs.Common.{◌≡◌, refl, Bool, true, false, ◌&&◌, ◌||◌, List, [], ◌∷◌, ◌++◌, ℕ, zero, suc, ◌≤◌, ◌<◌, arith, le-leb, leb-true, leb, length, get_or, take, drop}
+use Rattle.std.proofs.Math.Bool.{and-eq-true_iff, or-true, false≢true}
 use Rattle.name.specs.Utf8.{Range, begins, some}
 
 -- ---- bytes in a row, one in each range

@@ -1,9 +1,6 @@
 -- Tests on numbers: what a row of them is rewritten by, and cases by them.
-use mathlib.Core.Path.{◌≡◌, refl}
-use mathlib.Core.Bool.{Bool, true, false}
-use Prim.Native.Nat.{ℕ, ◌≤◌, ◌<◌}
-use borrow.Author.Tests.{eq-eqb, ne_eqb, lt-ltb, le-ltb, ltb-true, ltb-false, eqb-true, eqb-false}
-use lib.Dec.{ltb, eqb}
+use Rattle.std.proofs.Common.{◌≡◌, refl, Bool, true, false, ℕ, ◌≤◌, ◌<◌, eq-eqb, ne_eqb, lt-ltb, le-ltb, ltb-true, ltb-false, eqb-true, ltb, eqb}
+use borrow.Author.Tests.{eqb-false}
 
 -- Each test's value from what its branch knows.
 pub ruleset tests = (eq-eqb, ne_eqb, lt-ltb, le-ltb)

@@ -1,12 +1,6 @@
 -- Bytes are UTF-8 by the grammar of RFC 3629 if and only if they are the encoding of a run of scalar values.
-use mathlib.Core.Path.{◌≡◌, refl, ap, ap₂, ◌∙◌, subst}
-use mathlib.Core.Bool.{Bool, true, ◌&&◌, and-eq-true_iff, or-true}
-use mathlib.Core.List.{List, [], ◌∷◌, ◌++◌}
-use Prim.Native.Nat.{ℕ, zero, suc, ◌≤◌}
-use native.Mathlib.Omega.{arith}
-use borrow.Author.Tests.{eq-eqb, ne_eqb, eqb-true}
-use lib.Dec.{eqb}
-use lib.ListN.{length, take, drop, length-append, take-append-drop}
+use Rattle.std.proofs.Common.{◌≡◌, refl, ap, ap₂, ◌∙◌, subst, Bool, true, ◌&&◌, List, [], ◌∷◌, ◌++◌, ℕ, zero, suc, ◌≤◌, arith, eq-eqb, ne_eqb, eqb-true, eqb, length, take, drop, length-append, take-append-drop}
+use Rattle.std.proofs.Math.Bool.{and-eq-true_iff, or-true}
 use Rattle.name.specs.Utf8.{Range, utf8Char, begins, utf8Octets, utf8}
 use Rattle.name.specs.Scalar.{encode, encodeAll, Scalars, Encoded}
 use Rattle.name.proofs.Rows.{begins-fits, fits-begins, fits-behind, some-found, some_at}

@@ -22,6 +22,7 @@ pub struct Named {
 
 impl RegionName {
     // Validates and stores a name.
+    #[tactic(auto, unfolding(crate::specs::Name::nameCheck, crate::specs::Name::name_of))]
     pub fn new(name: &[u8]) -> Named
         ensures answer_value { checkOutcome result.answer ≡ nameCheck name.now }
         ensures name_value { result.name ≡ name_of name.now }
@@ -44,6 +45,7 @@ impl RegionName {
     }
 
     // A name as it is stored: its bytes, and zeros up to 24.
+    #[tactic(auto, unfolding(crate::specs::Name::paddedCheck, crate::specs::Name::paddedName))]
     pub fn from_padded(raw: [u8; 24]) -> Named
         ensures answer_value { checkOutcome result.answer ≡ paddedCheck raw }
         ensures name_value { result.name ≡ paddedName raw }
@@ -56,6 +58,7 @@ impl RegionName {
     }
 
     // The name of no bytes that goes with a refusal.
+    #[tactic(auto, unfolding(crate::specs::Name::noName))]
     pub fn none() -> Self
         ensures { result ≡ noName }
     {
@@ -77,6 +80,7 @@ fn refused() -> Named
 }
 
 // Whether bytes are a name.
+#[tactic(auto, unfolding(crate::specs::Name::nameOk))]
 fn name_ok(name: &[u8]) -> bool
     ensures { result ≡ nameOk name.now }
 {

@@ -34,6 +34,7 @@ pub fn valid(bytes: &[u8]) -> bool
     tail.left == 0
 }
 
+#[tactic(auto, unfolding(crate::specs::Steps::nextByte))]
 fn next_step(tail: Tail, byte: u8) -> Step
     ensures { result ≡ nextByte tail byte }
 {
@@ -51,6 +52,7 @@ fn next_step(tail: Tail, byte: u8) -> Step
 }
 
 // A character's first byte.
+#[tactic(auto, unfolding(crate::specs::Steps::firstByte))]
 fn first(byte: u8) -> Step
     ensures { result ≡ firstByte byte }
 {
