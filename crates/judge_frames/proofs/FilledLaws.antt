@@ -1,14 +1,6 @@
 -- The frames filled from a row of parts decode to that row, so that the judge over the frames judges it: nothing is refused but an empty
 -- row and another room than the verdicts need.
-use mathlib.Core.Path.{◌≡◌, refl, sym, ap, ap₂, ◌∙◌}
-use mathlib.Core.Bool.{Bool, true, cond}
-use mathlib.Core.List.{List, [], ◌∷◌, ◌++◌}
-use Prim.Native.Nat.{ℕ, ◌*◌, ◌%◌, ◌≤◌}
-use native.Mathlib.Omega.{arith}
-use borrow.Author.Tests.{eq-eqb, le-leb}
-use lib.Dec.{eqb}
-use lib.ListN.{length, drop, length-append}
-use lib.Seq.{drop-drop}
+use Rattle.std.proofs.Common.{◌≡◌, refl, sym, ap, ap₂, ◌∙◌, Bool, true, cond, List, [], ◌∷◌, ◌++◌, ℕ, ◌*◌, ◌%◌, ◌≤◌, arith, eq-eqb, le-leb, eqb, length, drop, length-append, drop-drop}
 use Rattle.codec.proofs.RunLaws.{flag_small, flag-read}
 use Rattle.codec.specs.Bytes.{flag}
 use Rattle.frame.specs.Frame.{part_width, partBytes, partFrom}

@@ -1,15 +1,8 @@
 -- A row of frames and a row of verdicts as a loop goes through them: what is left of the one, and what is written of the other; and
 -- what a row that is not refused has.
-use mathlib.Core.Path.{◌≡◌, sym, refl, ap, ◌∙◌}
-use mathlib.Core.Bool.{Bool, true, false, cond}
-use mathlib.Core.List.{List, [], ◌∷◌, ◌++◌, append-nil, append_assoc}
-use Prim.Native.Nat.{ℕ, suc, ◌+◌, ◌-◌, ◌*◌, ◌%◌, ◌≤◌, ◌<◌}
-use native.Mathlib.Nat.{sub-zero, sub-eq-zero_of_le, le_of_eq}
-use native.Mathlib.Omega.{arith}
-use lib.Dec.{eqb, leb}
-use lib.ListN.{length, take, drop, set, length-append, length-drop, drop_of_length-le}
-use lib.Seq.{drop-drop, take_at, length-take-le}
-use borrow.Author.Tests.{eqb-true, eqb-false}
+use Rattle.std.proofs.Common.{◌≡◌, sym, refl, ap, ◌∙◌, Bool, true, false, cond, List, [], ◌∷◌, ◌++◌, append-nil, append_assoc, ℕ, suc, ◌+◌, ◌-◌, ◌*◌, ◌%◌, ◌≤◌, ◌<◌, sub-eq-zero_of_le, le_of_eq, arith, eqb, leb, length, take, drop, set, length-append, length-drop, drop_of_length-le, drop-drop, take_at, length-take-le, eqb-true}
+use Rattle.std.proofs.Math.Nat.{sub-zero}
+use borrow.Author.Tests.{eqb-false}
 use borrow.Rule.Slice.PartMut.{put_mid}
 use Rattle.codec.proofs.CursorLaws.{part-rest}
 use Rattle.candidate.specs.declared.pairs.PairPart.{PairPart}

@@ -15,6 +15,7 @@
 // | 1 | winner: 0 none, 1 A, 2 B |
 // | 2, 3 | A, B: 0 Winner, 1 Nothing, 2 OlderDamaged, 3 InFlight, 4 Damage |
 #![tactic(auto)]
+
 ghost use Rattle.std.specs.Prelude.{◌≡◌, true, ◌++◌, ◌∷◌, [], ◌+◌, ◌*◌, ◌≤◌, ◌<◌, length, drop};
 ghost use Rattle.codec.specs.Bytes.{le32, le64};
 ghost use Rattle.frame.specs.Frame.{part_width, partFrom};
@@ -88,6 +89,7 @@ fn pair_from(frame: &[u8]) -> PairPart
     PairPart { a, b }
 }
 
+#[tactic(auto, unfolding(crate::specs::Frames::partInRange))]
 fn part_in_range(s: SlotPart) -> bool
     ensures { result ≡ partInRange s }
 {
@@ -97,6 +99,7 @@ fn part_in_range(s: SlotPart) -> bool
     false
 }
 
+#[tactic(auto, unfolding(crate::specs::Frames::pairInRange))]
 fn pair_in_range(p: PairPart) -> bool
     ensures { result ≡ pairInRange p }
 {
@@ -258,6 +261,7 @@ fn judge_pairs(frames: &[u8], n: usize, clean: bool, out: &mut [u8]) -> Judgemen
 }
 
 // 0 where nothing is refused.
+#[tactic(auto, unfolding(crate::specs::Frames::refusal))]
 fn refusal(frames: &[u8], clean: u8, room: usize) -> u8
     ensures { result ≡ refusal frames.now clean room }
 {
