@@ -1,15 +1,8 @@
 -- The bytes of a text from a place on, two characters a step, what they say of the whole text, and what a buffer answers.
-use mathlib.Core.Path.{◌≡◌, refl, sym, ap, ◌∙◌, subst}
-use mathlib.Core.Bool.{Bool, true, false, cond}
-use mathlib.Core.List.{List, [], ◌∷◌}
-use mathlib.Core.Option.{Option, some, none, map}
-use Prim.Native.Nat.{ℕ, suc, ◌+◌, ◌-◌, ◌*◌, ◌/◌, ◌≤◌, ◌<◌}
-use native.Mathlib.Nat.{zero-add}
-use native.Mathlib.Omega.{arith}
-use borrow.Author.Tests.{le-ltb, lt-ltb, le-leb, lt-leb, eq-eqb, ne_eqb, ltb-true}
-use lib.Dec.{ltb, eqb}
-use lib.ListN.{length, get_or, set, drop, drop_of_length-le}
-use lib.Seq.{paste, drop-cons, get_or-drop, drop-drop}
+use Rattle.std.proofs.Common.{◌≡◌, refl, sym, ap, ◌∙◌, subst, Bool, true, false, cond, List, [], ◌∷◌, ℕ, suc, ◌+◌, ◌-◌, ◌*◌, ◌/◌, ◌≤◌, ◌<◌, zero-add, arith, le-ltb, lt-ltb, le-leb, eq-eqb, ne_eqb, ltb-true, ltb, eqb, length, get_or, set, drop, drop_of_length-le, drop-cons, get_or-drop, drop-drop}
+use Rattle.std.proofs.Math.Option.{Option, some, none, map}
+use borrow.Author.Tests.{lt-leb}
+use Rattle.std.proofs.Math.Seq.{paste}
 use Rattle.codec.specs.Bytes.{put}
 use Rattle.codec.proofs.Copy.{copy_more}
 use Rattle.codec.proofs.CursorLaws.{put_whole, put-none, put-nil}

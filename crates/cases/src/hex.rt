@@ -72,10 +72,12 @@ fn is_hex(text: &[u8]) -> bool
         if text.len() - i < 2 {
             return false;
         }
-        if 16 <= digit(text[i]) {
+        let high = digit(text[i]);
+        if 16 <= high {
             return false;
         }
-        if 16 <= digit(text[i + 1]) {
+        let low = digit(text[i + 1]);
+        if 16 <= low {
             return false;
         }
         i += 2;

@@ -16,6 +16,7 @@ pub enum Fields {
 }
 
 // The place of the first `c` at `from` or behind it. Where there is none it is the end of `text`, or `from` itself if that is past the end.
+#[tactic(auto, using(crate::proofs::LineLaws::next_here, crate::proofs::LineLaws::next_later, crate::proofs::LineLaws::next_end))]
 pub fn find(text: &[u8], from: usize, c: u8) -> usize
     ensures { result ≡ next c text.now from }
 {
@@ -39,6 +40,7 @@ pub fn part(text: &[u8], from: usize, to: usize) -> &[u8]
 }
 
 // The fields of a line, which has no newline. The first two spaces part them.
+#[tactic(auto, unfolding(crate::specs::Line::fields))]
 pub fn split(line: &[u8]) -> Fields
     ensures { result ≡ fields line.now }
 {

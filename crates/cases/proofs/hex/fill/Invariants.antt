@@ -1,8 +1,8 @@
 -- `fill` meets its contract. The loop's invariant: the first `done` bytes are pasted in, and what is left of the text stands for the others.
-use Rattle.std.proofs.Common.{◌≡◌, true, ◌/◌, ◌≤◌, length, ℕ, ◌+◌, ◌-◌, ◌*◌, ◌<◌}
-use Rattle.codec.proofs.Copy.{copy-all}
+use Rattle.std.proofs.Common.{◌≡◌, ◌/◌, ◌≤◌, length, ◌-◌, ◌*◌, drop}
+use Rattle.std.proofs.Math.Option.{some}
+use Rattle.std.proofs.Math.Seq.{paste}
 use Rattle.cases.specs.Hex.{decoded, bytes_of}
-use Rattle.cases.proofs.HexLaws.{known_bytes, known-length, digits-here, byte-here, left-more, filled_more}
 use Rattle.cases.proofs.hex.fill.Given as goal
 
 abbrev pub invariant-loop-done : goal.invariant-loop-done

@@ -1,7 +1,6 @@
 -- `is_hex` meets its contract. The loop's invariant: the text from here on stands for bytes where all of it does.
-use Rattle.std.proofs.Common.{length, ◌-◌, ◌≡◌, true, ◌/◌, ◌≤◌, ℕ, ◌+◌, ◌*◌, ◌<◌}
+use Rattle.std.proofs.Common.{length, ◌-◌, ◌≡◌, ◌≤◌, drop}
 use Rattle.cases.specs.Hex.{decoded, is_some}
-use Rattle.cases.proofs.HexLaws.{decoded-end, decoded-odd, high-no-digit, low-no-digit, two_digits}
 use Rattle.cases.proofs.hex.is_hex.Given as goal
 
 abbrev pub invariant-loop-i : goal.invariant-loop-i

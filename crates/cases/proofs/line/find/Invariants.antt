@@ -1,7 +1,6 @@
 -- `find` meets its contract. The loop's invariant: the place from here on is the place from the start.
-use Rattle.std.proofs.Common.{length, ◌-◌, ◌≡◌, min, take, drop, ℕ, ◌+◌, ◌*◌, ◌<◌, ◌≤◌}
+use Rattle.std.proofs.Common.{length, ◌-◌, ◌≡◌}
 use Rattle.cases.specs.Line.{next}
-use Rattle.cases.proofs.LineLaws.{next_here, next-later, next-end}
 use Rattle.cases.proofs.line.find.Given as goal
 
 abbrev pub invariant-loop-i : goal.invariant-loop-i
