@@ -1,5 +1,2 @@
 pub mod SweepLaws
-pub mod LendLaws
-pub mod WalkLaws
-pub mod RowTypes
 pub mod SameJudge

@@ -1,15 +1,8 @@
 -- A pass over a row of pairs, one pair at a time: what is left to go through gives the whole, and what each of the three passes leaves.
-use mathlib.Core.Path.{◌≡◌, refl, sym, ap, ap₂, ◌∙◌}
-use mathlib.Core.Bool.{Bool, true, false, cond}
-use mathlib.Core.List.{List, [], ◌∷◌, ◌++◌, append_assoc}
-use Prim.Native.Nat.{ℕ, suc, ◌+◌, ◌≤◌, ◌<◌}
-use native.Mathlib.Numerals.{add-one}
-use native.Mathlib.Nat.{min-eq_left}
-use native.Mathlib.Omega.{arith}
-use lib.Dec.{eqb}
-use lib.ListN.{length, get_or, set, take, drop, length-take, length-append, drop_of_length-le}
-use lib.Seq.{drop-cons, get_or-take, set-get_or, get_or-append_seam, set-append_seam, take_all}
-use borrow.Author.Tests.{ne_eqb, eqb-true, eqb-false}
+use Rattle.std.proofs.Common.{◌≡◌, refl, sym, ap, ap₂, ◌∙◌, Bool, true, false, cond, List, [], ◌∷◌, ◌++◌, append_assoc, ℕ, suc, ◌+◌, ◌≤◌, ◌<◌, add-one, arith, eqb, length, get_or, set, take, drop, length-take, length-append, drop_of_length-le, drop-cons, get_or-take, take_all, ne_eqb, eqb-true}
+use Rattle.std.proofs.Math.Nat.{min-eq_left}
+use Rattle.std.proofs.Math.Seq.{set-get_or, get_or-append_seam, set-append_seam}
+use borrow.Author.Tests.{eqb-false}
 use Rattle.slot.specs.declared.slot.SlotStatus.{SlotStatus}
 use Rattle.slot.specs.declared.slot.HeaderFacts.{HeaderFacts}
 use Rattle.candidate.specs.declared.pairs.PairPart.{PairPart}

@@ -3,6 +3,7 @@
 //
 // The row of pairs is taken as it was read, and gone through three times, by one loop.
 #![tactic(auto)]
+
 ghost use Rattle.std.specs.Prelude.{◌≡◌, ◌≤◌, length};
 ghost use Rattle.judge.specs.Row.{rowJudged, rowVerdicts};
 ghost use Rattle.judge.specs.Sweep.{sweptRow, sweptVerdicts};
