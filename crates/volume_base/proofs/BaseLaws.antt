@@ -79,7 +79,7 @@ module _ {v : VolumeMeta} (ok : AcceptableBase v) (rest : List ℕ) where
   -- Each field is read where it was written.
   pub base-at : (k : ℕ) → At (ReadAt written) 0 (baseRow v) k
   base-at =
-      rw (base-row v)
+      subst (λ (bs : List ℕ). (k : ℕ) → At (ReadAt (bs ++ rest)) 0 (baseRow v) k) (sym (base-row v))
       (row_read (baseRow v) 0
       (omega (arith, ok.block-high)
       & omega (arith, ok.table-high)

@@ -1,3 +1,4 @@
 // Layer 3: the part of the volume record that both formats have.
 #![tactic(auto)]
+
 pub mod meta;

@@ -140,6 +140,7 @@ fn read_base(bytes: &[u8]) -> RawVolumeMetaRead
 }
 
 // Features first: a newer record that also reuses a reserved field or widens a range is still recognised as newer, not as damage.
+#[tactic(auto, unfolding(crate::specs::Base::baseCheck))]
 fn check_base(raw: RawVolumeMeta) -> Check
     ensures { checkOutcome result ≡ baseCheck raw }
 {
