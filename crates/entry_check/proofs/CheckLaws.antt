@@ -1,31 +1,12 @@
--- Laws of an entry's checks on numbers: the state, and what is known of a log2 that passed.
-use mathlib.Core.Path.{◌≡◌, refl}
-use mathlib.Core.Bool.{Bool, true, false, cond}
-use Prim.Native.Nat.{ℕ, ◌≤◌}
-use native.Mathlib.Omega.{arith}
-use borrow.Author.Tests.{ltb-false, eqb-true}
-use lib.Dec.{ltb, eqb}
+-- Laws of an entry's checks on numbers: what is known of a state and of a log2 that passed.
+use Rattle.std.proofs.Common.{◌≡◌, refl, Bool, true, false, cond, ℕ, ◌≤◌, arith, ltb-false, eqb-true, ltb, eqb}
 use Rattle.codec.specs.Outcome.{Outcome, given, refusal}
-use Rattle.region.specs.Kind.{state_of}
-use Rattle.region.specs.declared.meta.RegionState.{RegionState}
+use Rattle.region.proofs.BlockLaws.{block-low}
 use Rattle.region.proofs.OutcomeLaws.{passed}
 use Rattle.entry_check.specs.Check.{knownCheck, stateCheck}
 
--- Ready passes; every other state, and every number that is none, is 34.
-abbrev pub ready : Outcome RegionState → Outcome (Unit {0})
-ready (given RegionState.Ready) = given tt
-ready (given RegionState.Released) = refusal 34
-ready (refusal number) = refusal 34
-
-pub state-ready : (v : ℕ) → ready (state_of v) ≡ stateCheck v
-unfolding state_of stateCheck
-state-ready v = go (eqb v 1) (eqb v 2)
-  where
-    go : (one two : Bool)
-        → ◌≡◌ {A = Outcome (Unit {0})} (ready (cond one (given RegionState.Ready) (cond two (given RegionState.Released) (refusal 34)))) (cond one (given tt) (refusal 34))
-    go true two = refl
-    go false true = refl
-    go false false = refl
+-- A block is no less than 4096 bytes, so that one can be divided by.
+pub ruleset blocks = (block-low)
 
 pub state-passed : (v : ℕ) → stateCheck v ≡ given tt → v ≡ 1
 unfolding stateCheck

@@ -17,6 +17,7 @@ pub enum ReservedSpan {
 }
 
 // Flags first, so that an entry from a newer release is recognised as such.
+#[tactic(auto, unfolding(crate::specs::Check::knownCheck))]
 pub fn check_known(flags: u8, log2_block: u8) -> Check
     ensures { checkOutcome result ≡ knownCheck flags log2_block }
 {
@@ -33,6 +34,7 @@ pub fn check_known(flags: u8, log2_block: u8) -> Check
 }
 
 // 34: only an entry that is Ready is accepted.
+#[tactic(auto, unfolding(crate::specs::Check::stateCheck, region::specs::Kind::state_of))]
 pub fn check_state(state: u8) -> Check
     ensures { checkOutcome result ≡ stateCheck state }
 {
@@ -46,6 +48,7 @@ pub fn check_state(state: u8) -> Check
 }
 
 // The extents lie in the span (checked with the header), so that their sum, the capacity, cannot exceed it.
+#[tactic(auto, using(crate::proofs::CheckLaws::blocks), unfolding(crate::specs::Check::spanCheck))]
 pub fn check_span(
     data_size: u64,
     capacity: u64,
@@ -79,6 +82,7 @@ pub fn check_span(
 }
 
 // A header's block lies in the span and behind the table.
+#[tactic(auto, using(crate::proofs::CheckLaws::blocks), unfolding(crate::specs::Check::headerCheck))]
 pub fn check_header(header: u64, table_end: u64, start: u64, end: u64, log2_block: u8) -> Check
     ensures { checkOutcome result ≡ headerCheck header table_end start end (blockSize log2_block) }
 {
@@ -102,6 +106,7 @@ pub fn check_header(header: u64, table_end: u64, start: u64, end: u64, log2_bloc
 }
 
 // 39: both headers in one place. 40: a footprint number of 0, or above the number of the page.
+#[tactic(auto, unfolding(crate::specs::Check::footprintCheck))]
 pub fn check_footprint(
     header_a: u64,
     header_b: u64,
@@ -123,6 +128,7 @@ pub fn check_footprint(
 }
 
 // A slot region has no data area, every other an extent and a capacity.
+#[tactic(auto, unfolding(crate::specs::Check::contentCheck))]
 pub fn check_content(kind: RegionKind, extent_count: u16, capacity: u64, data_size: u64) -> Check
     ensures { checkOutcome result ≡ contentCheck kind extent_count capacity data_size }
 {
@@ -148,6 +154,7 @@ pub fn check_content(kind: RegionKind, extent_count: u16, capacity: u64, data_si
 }
 
 // Whole data blocks; of 512 bytes in an append region.
+#[tactic(auto, using(crate::proofs::CheckLaws::blocks), unfolding(crate::specs::Check::sizesCheck))]
 pub fn check_sizes(kind: RegionKind, capacity: u64, data_size: u64, log2_block: u8) -> Check
     ensures { checkOutcome result ≡ sizesCheck kind capacity data_size (blockSize log2_block) }
 {
@@ -168,6 +175,7 @@ pub fn check_sizes(kind: RegionKind, capacity: u64, data_size: u64, log2_block: 
 }
 
 // The span widened to whole blocks, then clamped to the file and to past the table area.
+#[tactic(auto, using(crate::proofs::CheckLaws::blocks), unfolding(crate::specs::Reserved::widenedSpan, crate::specs::Reserved::span_of))]
 pub fn widened_span(
     span_start: u64,
     span_end: u64,
@@ -186,6 +194,7 @@ pub fn widened_span(
     ReservedSpan::Nothing
 }
 
+#[tactic(auto, unfolding(crate::specs::Reserved::larger))]
 fn larger(a: u64, b: u64) -> u64
     ensures { result ≡ larger a b }
 {
@@ -195,6 +204,7 @@ fn larger(a: u64, b: u64) -> u64
     a
 }
 
+#[tactic(auto, unfolding(crate::specs::Reserved::smaller))]
 fn smaller(a: u64, b: u64) -> u64
     ensures { result ≡ smaller a b }
 {
@@ -213,6 +223,7 @@ fn whole_down(n: u64, block: u64) -> u64
 }
 
 // The next multiple of `block`, or the highest number where there is none.
+#[tactic(auto, unfolding(crate::specs::Reserved::wholeUp, crate::specs::Reserved::smaller))]
 fn whole_up(n: u64, block: u64) -> u64
     requires { 0 < block }
     ensures { result ≡ wholeUp n block }
