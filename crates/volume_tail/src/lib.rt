@@ -1,5 +1,6 @@
 // Layer 3: the 16 bytes behind the base of a volume record of format 2, by their layout. Nothing of them is checked.
 #![tactic(auto)]
+
 ghost use Rattle.std.specs.Prelude.{◌≡◌};
 ghost use Rattle.codec.specs.Bytes.{putWhole};
 ghost use Rattle.codec.specs.Cursor.{write, writtenAnswer};
