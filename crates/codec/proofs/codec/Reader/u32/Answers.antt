@@ -7,7 +7,7 @@ pub returns-in_default : goal.returns-in_default
 returns-in_default c = number_past 4 _ _ c.in_default.ensures refl
 
 pub u32_at-requires : goal.u32_at-requires
-u32_at-requires c = (run-done 4 _ _ c.in-At.ensures refl).2
+u32_at-requires c = (run-done 4 _ _ c.in-Value.ensures refl).2
 
 pub returns : goal.returns
-returns c = number-there 4 _ _ c.in-At.ensures refl c.u32_at.ensures
+returns c = number-there 4 _ _ c.in-Value.ensures refl c.u32_at.ensures

@@ -7,7 +7,7 @@ pub returns-in_default : goal.returns-in_default
 returns-in_default c = number_past 8 _ _ c.in_default.ensures refl
 
 pub u64_at-requires : goal.u64_at-requires
-u64_at-requires c = (run-done 8 _ _ c.in-At.ensures refl).2
+u64_at-requires c = (run-done 8 _ _ c.in-Value.ensures refl).2
 
 pub returns : goal.returns
-returns c = number-there 8 _ _ c.in-At.ensures refl c.u64_at.ensures
+returns c = number-there 8 _ _ c.in-Value.ensures refl c.u64_at.ensures

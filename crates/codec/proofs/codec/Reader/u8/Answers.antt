@@ -8,8 +8,8 @@ pub returns-in_default : goal.returns-in_default
 returns-in_default c = number_past 1 _ _ c.in_default.ensures refl
 
 pub bounds-buf-start : goal.bounds-buf-start
-bounds-buf-start c = omega (arith, (run-done 1 _ _ c.in-At.ensures refl).2)
+bounds-buf-start c = omega (arith, (run-done 1 _ _ c.in-Value.ensures refl).2)
 
 pub returns : goal.returns
 unfolding le
-returns c = number-there 1 _ _ c.in-At.ensures refl (omega arith)
+returns c = number-there 1 _ _ c.in-Value.ensures refl (omega arith)
