@@ -7,12 +7,8 @@ use native.Mathlib.Nat.{le_of_eq}
 use native.Mathlib.Omega.{arith}
 use lib.ListN.{length, get_or, drop, length-append}
 use Rattle.codec.specs.Bytes.{le, bytes, put, putWhole}
-use Rattle.codec.specs.Cursor.{Answer, done, refused, step, read, readBytes, write, u8Answer, u16Answer, u32Answer, u64Answer, bytesAnswer, writtenAnswer}
-use Rattle.codec.specs.declared.codec.ReadU8.{ReadU8}
-use Rattle.codec.specs.declared.codec.ReadU16.{ReadU16}
-use Rattle.codec.specs.declared.codec.ReadU32.{ReadU32}
-use Rattle.codec.specs.declared.codec.ReadU64.{ReadU64}
-use Rattle.codec.specs.declared.codec.ReadBytes.{ReadBytes}
+use Rattle.codec.specs.Cursor.{Answer, done, refused, step, read, read_run, write, read_answer, writtenAnswer}
+use Rattle.codec.specs.declared.codec.Read.{Read}
 use Rattle.codec.specs.declared.codec.Writer.{Writer}
 use Rattle.codec.specs.declared.codec.Written.{Written}
 use Rattle.codec.proofs.CursorLaws.{le-byte, length-bytes, put-nil, put-more, put_whole, put_all, length-put, step-there, answer-done, answer-refused}
@@ -183,7 +179,7 @@ reads w {s} row says = record { before = row; value = le w s row.at; is = ap (le
 abbrev pub reads_byte : {s : List ℕ} {pos : ℕ} (row : ReadTo s pos) {answer : Answer ℕ} (says : answer ≡ read 1 s pos) → Reads (le 1 s pos) s pos 1 says
 reads_byte {s} row says = record { before = row; value = get_or s row.at 0; is = ap (le 1 s) row.here ∙ le-byte s row.at }
 
-abbrev pub reads-run : (n : ℕ) {s : List ℕ} {pos : ℕ} (row : ReadTo s pos) {answer : Answer ℕ} (says : answer ≡ readBytes n s pos) → Reads pos s pos n says
+abbrev pub reads-run : (n : ℕ) {s : List ℕ} {pos : ℕ} (row : ReadTo s pos) {answer : Answer ℕ} (says : answer ≡ read_run n s pos) → Reads pos s pos n says
 reads-run n row says = record { before = row; value = row.at; is = row.here }
 
 module _ {v : ℕ} {s : List ℕ} {pos n : ℕ} {answer : Answer ℕ} {says : answer ≡ step 6 v s pos n} (row : Reads v s pos n says) where
@@ -219,20 +215,8 @@ too_short short {s = s} {n = n} row is within = sym (short s (row.before.at + n)
 abbrev pub each : {A : Type 0} → (ℕ → List ℕ → A) → List ℕ → A
 each next numbers = next (get_or numbers 0 0) (drop 1 numbers)
 
--- What a refusal says, at each width.
-pub u8-refused : {r : ReadU8} → r ≡ ReadU8.Truncated → u8Answer r ≡ refused 6
-u8-refused is = ap u8Answer is
+-- What a refusal says.
+pub read-refused : {A : Type 0} {r : Read A} → r ≡ Read.Truncated → read_answer r ≡ refused 6
+read-refused is = ap read_answer is
 
-pub u16-refused : {r : ReadU16} → r ≡ ReadU16.Truncated → u16Answer r ≡ refused 6
-u16-refused is = ap u16Answer is
-
-pub u32-refused : {r : ReadU32} → r ≡ ReadU32.Truncated → u32Answer r ≡ refused 6
-u32-refused is = ap u32Answer is
-
-pub u64-refused : {r : ReadU64} → r ≡ ReadU64.Truncated → u64Answer r ≡ refused 6
-u64-refused is = ap u64Answer is
-
-pub bytes-refused : {r : ReadBytes} → r ≡ ReadBytes.Truncated → bytesAnswer r ≡ refused 6
-bytes-refused is = ap bytesAnswer is
-
-pub ruleset truncated = (u8-refused, u16-refused, u32-refused, u64-refused, bytes-refused)
+pub ruleset truncated = (read-refused)

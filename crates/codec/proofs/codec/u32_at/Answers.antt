@@ -1,7 +1,0 @@
--- `u32_at` meets its contract: a number of four bytes in two parts.
-use Rattle.std.proofs.Common.{arith}
-use Rattle.codec.proofs.CursorLaws.{le_split}
-use Rattle.codec.proofs.codec.u32_at.Goals as goal
-
-pub returns : goal.returns
-returns c = omega (arith, le_split 2 2 c.args.s.now c.args.i)
