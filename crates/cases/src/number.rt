@@ -3,13 +3,13 @@ ghost use Rattle.std.specs.Prelude.{◌≡◌, min};
 ghost use Rattle.codec.specs.Cursor.{read};
 ghost use Rattle.cases.specs.Number.{or_zero};
 
-use codec::codec::{ReadU8, ReadU16, ReadU32, ReadU64, Reader};
+use codec::codec::{Read, Reader};
 
 // The number at a place, 0 where its bytes are not all there.
 pub fn u8_at(s: &[u8], at: usize) -> u8
     ensures { result ≡ or_zero (read 1 s.now at) }
 {
-    let ReadU8::Value(value, _) = (Reader { pos: at }).u8(s) else {
+    let Read::Value(value, _) = (Reader { pos: at }).u8(s) else {
         return 0;
     };
     value
@@ -19,7 +19,7 @@ pub fn u8_at(s: &[u8], at: usize) -> u8
 pub fn u16_at(s: &[u8], at: usize) -> u16
     ensures { result ≡ or_zero (read 2 s.now at) }
 {
-    let ReadU16::Value(value, _) = (Reader { pos: at }).u16(s) else {
+    let Read::Value(value, _) = (Reader { pos: at }).u16(s) else {
         return 0;
     };
     value
@@ -29,7 +29,7 @@ pub fn u16_at(s: &[u8], at: usize) -> u16
 pub fn u32_at(s: &[u8], at: usize) -> u32
     ensures { result ≡ or_zero (read 4 s.now at) }
 {
-    let ReadU32::Value(value, _) = (Reader { pos: at }).u32(s) else {
+    let Read::Value(value, _) = (Reader { pos: at }).u32(s) else {
         return 0;
     };
     value
@@ -39,7 +39,7 @@ pub fn u32_at(s: &[u8], at: usize) -> u32
 pub fn u64_at(s: &[u8], at: usize) -> u64
     ensures { result ≡ or_zero (read 8 s.now at) }
 {
-    let ReadU64::Value(value, _) = (Reader { pos: at }).u64(s) else {
+    let Read::Value(value, _) = (Reader { pos: at }).u64(s) else {
         return 0;
     };
     value
