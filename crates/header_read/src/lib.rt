@@ -6,7 +6,7 @@ ghost use Rattle.std.specs.Prelude.{◌≡◌, ◌+◌, ◌≤◌, length};
 ghost use Rattle.slot.specs.Status.{checkNumbers, parsedNumbers};
 ghost use Rattle.slot.specs.Read.{headerRead, headerSum, numberOk, integrity, shape, place, check, parseHeader};
 
-use codec::codec::{ReadBytes, ReadU8, ReadU16, ReadU32, ReadU64, Reader};
+use codec::codec::{Read, Reader};
 use slot::slot::{Check, Expect, HeaderRead, Parsed, RawHeader, SlotInfo, SlotStatus};
 
 // Field-by-field validation after the blank check, through every check but the payload CRC.
@@ -42,70 +42,70 @@ fn read_header(slot: &[u8]) -> HeaderRead
     ensures { result ≡ headerRead slot.now }
 {
     let r = Reader::new();
-    let ReadBytes::At(_, r) = r.bytes(slot, 8) else {
+    let Read::Value(_, r) = r.bytes(slot, 8) else {
         return HeaderRead::Truncated;
     };
-    let ReadU32::Value(header_crc32c, r) = r.u32(slot) else {
+    let Read::Value(header_crc32c, r) = r.u32(slot) else {
         return HeaderRead::Truncated;
     };
-    let ReadU16::Value(header_len, r) = r.u16(slot) else {
+    let Read::Value(header_len, r) = r.u16(slot) else {
         return HeaderRead::Truncated;
     };
-    let ReadU16::Value(format_major, r) = r.u16(slot) else {
+    let Read::Value(format_major, r) = r.u16(slot) else {
         return HeaderRead::Truncated;
     };
-    let ReadU32::Value(incompat_flags, r) = r.u32(slot) else {
+    let Read::Value(incompat_flags, r) = r.u32(slot) else {
         return HeaderRead::Truncated;
     };
-    let ReadU32::Value(ro_compat_flags, r) = r.u32(slot) else {
+    let Read::Value(ro_compat_flags, r) = r.u32(slot) else {
         return HeaderRead::Truncated;
     };
-    let ReadU32::Value(compat_flags, r) = r.u32(slot) else {
+    let Read::Value(compat_flags, r) = r.u32(slot) else {
         return HeaderRead::Truncated;
     };
-    let ReadU32::Value(payload_crc32c, r) = r.u32(slot) else {
+    let Read::Value(payload_crc32c, r) = r.u32(slot) else {
         return HeaderRead::Truncated;
     };
-    let ReadBytes::At(_, r) = r.bytes(slot, 16) else {
+    let Read::Value(_, r) = r.bytes(slot, 16) else {
         return HeaderRead::Truncated;
     };
-    let ReadU64::Value(object_id, r) = r.u64(slot) else {
+    let Read::Value(object_id, r) = r.u64(slot) else {
         return HeaderRead::Truncated;
     };
-    let ReadU64::Value(generation, r) = r.u64(slot) else {
+    let Read::Value(generation, r) = r.u64(slot) else {
         return HeaderRead::Truncated;
     };
-    let ReadU64::Value(slot_offset, r) = r.u64(slot) else {
+    let Read::Value(slot_offset, r) = r.u64(slot) else {
         return HeaderRead::Truncated;
     };
-    let ReadU32::Value(payload_len, r) = r.u32(slot) else {
+    let Read::Value(payload_len, r) = r.u32(slot) else {
         return HeaderRead::Truncated;
     };
-    let ReadU8::Value(slot_index, r) = r.u8(slot) else {
+    let Read::Value(slot_index, r) = r.u8(slot) else {
         return HeaderRead::Truncated;
     };
-    let ReadU8::Value(slot_count, r) = r.u8(slot) else {
+    let Read::Value(slot_count, r) = r.u8(slot) else {
         return HeaderRead::Truncated;
     };
-    let ReadU8::Value(log2_slot_size, r) = r.u8(slot) else {
+    let Read::Value(log2_slot_size, r) = r.u8(slot) else {
         return HeaderRead::Truncated;
     };
-    let ReadU8::Value(reserved0, r) = r.u8(slot) else {
+    let Read::Value(reserved0, r) = r.u8(slot) else {
         return HeaderRead::Truncated;
     };
-    let ReadU32::Value(prev_header_crc32c, r) = r.u32(slot) else {
+    let Read::Value(prev_header_crc32c, r) = r.u32(slot) else {
         return HeaderRead::Truncated;
     };
-    let ReadU32::Value(reserved1, r) = r.u32(slot) else {
+    let Read::Value(reserved1, r) = r.u32(slot) else {
         return HeaderRead::Truncated;
     };
-    let ReadU64::Value(owner_generation, r) = r.u64(slot) else {
+    let Read::Value(owner_generation, r) = r.u64(slot) else {
         return HeaderRead::Truncated;
     };
-    let ReadU64::Value(meta_seq, r) = r.u64(slot) else {
+    let Read::Value(meta_seq, r) = r.u64(slot) else {
         return HeaderRead::Truncated;
     };
-    let ReadBytes::At(_, _) = r.bytes(slot, 24) else {
+    let Read::Value(_, _) = r.bytes(slot, 24) else {
         return HeaderRead::Truncated;
     };
     HeaderRead::Header(RawHeader {
