@@ -1,6 +1,6 @@
 -- The digits of each number of a part, one after the other.
 use Rattle.std.proofs.Common.{ap₂, ◌++◌, rules}
-use Rattle.codec.proofs.CursorLaws.{bytes-byte, bytes-digits}
+use Rattle.codec.proofs.CursorLaws.{bytes-byte, bytes-low_first}
 use Rattle.frame.specs.Frame.{partBytes}
 use Rattle.frame.proofs.frame.SlotPart.bytes.Goals as goal
 
@@ -11,7 +11,7 @@ returns c =
     ap₂ ◌++◌
     (ap₂ ◌++◌
     (ap₂ ◌++◌
-    (ap₂ ◌++◌ (ap₂ ◌++◌ (bytes-byte p.code (search rules)) (bytes-byte p.facts (search rules))) (bytes-digits 7 p.generation))
-    (bytes-digits 7 p.meta_seq))
-    (bytes-digits 3 p.header_crc32c))
-    (bytes-digits 3 p.prev_header_crc32c)
+    (ap₂ ◌++◌ (ap₂ ◌++◌ (bytes-byte p.code (search rules)) (bytes-byte p.facts (search rules))) (bytes-low_first 7 p.generation))
+    (bytes-low_first 7 p.meta_seq))
+    (bytes-low_first 3 p.header_crc32c))
+    (bytes-low_first 3 p.prev_header_crc32c)
