@@ -28,7 +28,7 @@ ghost use Rattle.judge_frames.specs.Frames.{frameWidth, verdictWidth, pairFrom, 
 
 use candidate::numbers::Maxima;
 use candidate::pairs::PairPart;
-use codec::codec::{ReadU32, ReadU64, Reader};
+use codec::codec::{Read, Reader};
 use frame::frame::SlotPart;
 use verdict::verdict::{
     Heal, Judged, Judgement, PairVerdict, SlotVerdict, Standing, Tally, WinnerSlot,
@@ -49,7 +49,7 @@ fn u32_at(part: &[u8], at: usize) -> u32
     ensures { result ≡ le32 part.now at }
 {
     let r = Reader { pos: at };
-    let ReadU32::Value(v, next) = r.u32(part) else {
+    let Read::Value(v, next) = r.u32(part) else {
         return 0;
     };
     v
@@ -60,7 +60,7 @@ fn u64_at(part: &[u8], at: usize) -> u64
     ensures { result ≡ le64 part.now at }
 {
     let r = Reader { pos: at };
-    let ReadU64::Value(v, next) = r.u64(part) else {
+    let Read::Value(v, next) = r.u64(part) else {
         return 0;
     };
     v
