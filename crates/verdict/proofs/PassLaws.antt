@@ -20,7 +20,7 @@ use Rattle.verdict.specs.declared.verdict.Tally.{Tally}
 use Rattle.verdict.specs.declared.verdict.StoreRules.{StoreRules}
 use Rattle.verdict.specs.declared.verdict.Heal.{Heal}
 use Rattle.verdict.specs.declared.verdict.Judgement.{Judgement}
-use Rattle.verdict.specs.Verdict.{byIndex, slotVerdict, pairVerdict, inFlight, refused}
+use Rattle.verdict.specs.Verdict.{byIndex, slotVerdict, pairVerdict, inFlight}
 use Rattle.verdict.specs.Judge.{verdictsFrom, firstVerdicts, volumeVerdict, candidates, anyCandidate, anyTrouble, anyRefused, firstTally, storeRules, demoted, lastVerdicts, pairHeal, or_else, heal, writable, rowRules, verdicts, judgeRow}
 use Rattle.verdict.specs.Passes.{verdictsBy, count, noTally, tallied, tallies, healOf, heals}
 
