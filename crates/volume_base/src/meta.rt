@@ -17,7 +17,7 @@ ghost use Rattle.codec.specs.Cursor.{write, writtenAnswer};
 ghost use Rattle.region.specs.Error.{checkOutcome, encodedOutcome, fitted};
 ghost use Rattle.volume_base.specs.Base.{baseRead, baseCheck, decodeBase, baseOutcome, baseBytes};
 
-use codec::codec::{ReadU8, ReadU16, ReadU32, ReadU64, Reader, Writer, Written};
+use codec::codec::{Read, Reader, Writer, Written};
 use region::meta::{Check, MetaEncoded, MetaError};
 use region::meta2::block_size;
 
@@ -97,31 +97,31 @@ fn read_base(bytes: &[u8]) -> RawVolumeMetaRead
     ensures { result ≡ baseRead bytes.now }
 {
     let r = Reader::new();
-    let ReadU8::Value(log2_block_size, r) = r.u8(bytes) else {
+    let Read::Value(log2_block_size, r) = r.u8(bytes) else {
         return RawVolumeMetaRead::Truncated;
     };
-    let ReadU8::Value(log2_table_slot_size, r) = r.u8(bytes) else {
+    let Read::Value(log2_table_slot_size, r) = r.u8(bytes) else {
         return RawVolumeMetaRead::Truncated;
     };
-    let ReadU16::Value(device_index, r) = r.u16(bytes) else {
+    let Read::Value(device_index, r) = r.u16(bytes) else {
         return RawVolumeMetaRead::Truncated;
     };
-    let ReadU32::Value(reserved0, r) = r.u32(bytes) else {
+    let Read::Value(reserved0, r) = r.u32(bytes) else {
         return RawVolumeMetaRead::Truncated;
     };
-    let ReadU64::Value(owner_generation, r) = r.u64(bytes) else {
+    let Read::Value(owner_generation, r) = r.u64(bytes) else {
         return RawVolumeMetaRead::Truncated;
     };
-    let ReadU64::Value(table_offset, r) = r.u64(bytes) else {
+    let Read::Value(table_offset, r) = r.u64(bytes) else {
         return RawVolumeMetaRead::Truncated;
     };
-    let ReadU64::Value(created_unix_s, r) = r.u64(bytes) else {
+    let Read::Value(created_unix_s, r) = r.u64(bytes) else {
         return RawVolumeMetaRead::Truncated;
     };
-    let ReadU64::Value(features, r) = r.u64(bytes) else {
+    let Read::Value(features, r) = r.u64(bytes) else {
         return RawVolumeMetaRead::Truncated;
     };
-    let ReadU64::Value(reserved1, _) = r.u64(bytes) else {
+    let Read::Value(reserved1, _) = r.u64(bytes) else {
         return RawVolumeMetaRead::Truncated;
     };
     RawVolumeMetaRead::Fields(RawVolumeMeta {
