@@ -6,7 +6,7 @@ ghost use Rattle.codec.specs.Bytes.{putWhole};
 ghost use Rattle.codec.specs.Cursor.{write, writtenAnswer};
 ghost use Rattle.volume_tail.specs.Tail.{tailRead, tail_bytes};
 
-use codec::codec::{ReadU8, ReadU16, ReadU32, Reader, Writer, Written};
+use codec::codec::{Read, Reader, Writer, Written};
 
 // The fields behind the base as they are stored.
 #[derive(Clone, Copy)]
@@ -31,22 +31,22 @@ pub fn read_tail(bytes: &[u8]) -> RawTailRead
     ensures { result ≡ tailRead bytes.now }
 {
     let r = Reader { pos: 48 };
-    let ReadU32::Value(table_pages, r) = r.u32(bytes) else {
+    let Read::Value(table_pages, r) = r.u32(bytes) else {
         return RawTailRead::Truncated;
     };
-    let ReadU16::Value(entries_per_page, r) = r.u16(bytes) else {
+    let Read::Value(entries_per_page, r) = r.u16(bytes) else {
         return RawTailRead::Truncated;
     };
-    let ReadU8::Value(clean_close, r) = r.u8(bytes) else {
+    let Read::Value(clean_close, r) = r.u8(bytes) else {
         return RawTailRead::Truncated;
     };
-    let ReadU8::Value(reserved0, r) = r.u8(bytes) else {
+    let Read::Value(reserved0, r) = r.u8(bytes) else {
         return RawTailRead::Truncated;
     };
-    let ReadU32::Value(flags, r) = r.u32(bytes) else {
+    let Read::Value(flags, r) = r.u32(bytes) else {
         return RawTailRead::Truncated;
     };
-    let ReadU32::Value(reserved1, _) = r.u32(bytes) else {
+    let Read::Value(reserved1, _) = r.u32(bytes) else {
         return RawTailRead::Truncated;
     };
     RawTailRead::Fields(RawTail {
