@@ -98,7 +98,8 @@ module _ {v : VolumeMeta2} (ok : Acceptable v) where
   -- Each field behind the base is read where it was written.
   tail_at : (k : ℕ) → At (ReadAt whole) 48 (tailRow (storedTail v)) k
   tail_at =
-      rw (volume-row v, ← append-nil (row (baseBytes v.base) (tailRow (storedTail v))))
+      subst (λ (bs : List ℕ). (k : ℕ) → At (ReadAt bs) 48 (tailRow (storedTail v)) k)
+      (append-nil (row (baseBytes v.base) (tailRow (storedTail v))) ∙ sym (volume-row v))
       (row_read (tailRow (storedTail v)) 48
       (omega (arith, ok.pages-high)
       & omega (arith, ok.entries, entries-small v.base.log2_table_slot_size)

@@ -15,7 +15,7 @@ ghost use Rattle.region.specs.Error.{checkOutcome, encodedOutcome, fitted};
 ghost use Rattle.volume.specs.Volume.{tailCheck, decodeVolume, volumeOutcome, volumeBytes, table_end, endOutcome, fileCheck};
 
 use codec::bytes::flag;
-use codec::codec::{ReadU64, Reader, Written};
+use codec::codec::{Read, Reader, Written};
 use region::meta::{Check, MetaEncoded, MetaError};
 use region::meta2::{block_size, entries_per_page};
 use volume_base::meta::{VolumeMeta, VolumeMetaRead};
@@ -88,7 +88,7 @@ impl VolumeMeta2 {
         let RawTailRead::Fields(tail) = read_tail(bytes) else {
             return VolumeMeta2Read::Refused(MetaError::Length);
         };
-        let ReadU64::Value(features, _) = Reader { pos: 32 }.u64(bytes) else {
+        let Read::Value(features, _) = Reader { pos: 32 }.u64(bytes) else {
             return VolumeMeta2Read::Refused(MetaError::Length);
         };
         // Newer-format markers first, before any other field, so that a newer record is recognised as newer and never as damage.
@@ -120,6 +120,7 @@ impl VolumeMeta2 {
     }
 
     // The end of the table area: two blocks and two table slots a page.
+    #[tactic(auto, unfolding(crate::specs::Volume::table_end))]
     pub fn table_end(self) -> TableEnd
         ensures { endOutcome result ≡ table_end self }
     {
@@ -146,6 +147,7 @@ impl VolumeMeta2 {
 }
 
 // The record of a base and what is stored behind it.
+#[tactic(auto, unfolding(crate::specs::Volume::tailCheck))]
 fn with_base(base: VolumeMeta, tail: RawTail) -> VolumeMeta2Read
     requires { (12 ≤ base.log2_block_size) × (base.log2_block_size ≤ 16) }
     ensures { volumeOutcome result ≡ tailCheck base tail }
