@@ -1,5 +1,5 @@
 -- It refuses before anything is written, and what passes has whole frames and room for their verdicts.
-use Rattle.std.proofs.Common.{refl, sym, ap, ◌∙◌, length, eq-eqb, ne_eqb}
+use Rattle.std.proofs.Common.{sym, ap, ◌∙◌, length, eq-eqb, ne_eqb}
 use Rattle.verdict.specs.declared.verdict.Judged.{Judged}
 use Rattle.judge_frames.specs.Frames.{judged, judgedBytes}
 use Rattle.judge_frames.proofs.RowLaws.{not-refused}
