@@ -1,6 +1,5 @@
 -- Laws of an entry's checks: a check in a row of checks, and what is known of an entry that passed.
-use mathlib.Core.Path.{◌≡◌, refl, sym, ap, ◌∙◌}
-use Prim.Native.Nat.{ℕ, ◌^◌}
+use Rattle.std.proofs.Common.{◌≡◌, refl, sym, ap, ◌∙◌, ℕ, ◌^◌}
 use Rattle.codec.specs.Outcome.{Outcome, given, and_then}
 use Rattle.region.specs.Error.{checkOutcome}
 use Rattle.region.specs.Kind.{kindNumber, kind_of}
@@ -18,17 +17,15 @@ use Rattle.entry.specs.Check.{fieldsCheck, entry2, accepted}
 
 -- ---- a check in a row of checks
 
--- Where it passes, what is left is behind it; where it fails, it is the whole's answer.
-module _ {r : Check} {check : Outcome (Unit {0})} (says : checkOutcome r ≡ check) where
-  answered : {b : Check} (left : Outcome (Unit {0})) → r ≡ b → and_then check (λ _. left) ≡ and_then (checkOutcome b) (λ _. left)
-  answered left is = ap (λ (o : Outcome (Unit {0})). and_then o (λ _. left)) (sym says ∙ ap checkOutcome is)
+-- Where it passes, what is left is behind it.
+pub passes : {check whole left : Outcome (Unit {0})} → given tt ≡ check → whole ≡ and_then check (λ _. left) → whole ≡ left
+passes {left = left} says reached = reached ∙ ap (λ (o : Outcome (Unit {0})). and_then o (λ _. left)) (sym says)
 
-  pub passes : {whole left : Outcome (Unit {0})} → r ≡ Check.Pass → whole ≡ and_then check (λ _. left) → whole ≡ left
-  passes {whole} {left} is reached = reached ∙ answered left is
-
-  pub fails : {whole : Outcome (Unit {0})} {error : MetaError} (left : Outcome (Unit {0})) → r ≡ Check.Fail error → whole ≡ and_then check (λ _. left)
-      → checkOutcome r ≡ whole
-  fails left is reached = ap checkOutcome is ∙ sym (reached ∙ answered left is)
+-- Where it fails, it is the whole's answer.
+pub fails : {r : Check} {check whole : Outcome (Unit {0})} {error : MetaError} (left : Outcome (Unit {0})) → checkOutcome r ≡ check → r ≡ Check.Fail error
+    → whole ≡ and_then check (λ _. left) → checkOutcome r ≡ whole
+fails left says is reached =
+    ap checkOutcome is ∙ sym (reached ∙ ap (λ (o : Outcome (Unit {0})). and_then o (λ _. left)) (sym says ∙ ap checkOutcome is))
 
 -- ---- what is left of the definition behind each check
 

@@ -1,12 +1,6 @@
 -- Laws of table entries: an entry that is written, one that is read, and that each gives back the other.
-use mathlib.Core.Path.{◌≡◌, refl, sym, ap, ◌∙◌}
-use mathlib.Core.Bool.{Bool, true, false, cond}
-use mathlib.Core.List.{List, [], ◌∷◌, ◌++◌}
-use Prim.Native.Nat.{ℕ, ◌^◌, ◌≤◌, ◌<◌}
-use native.Mathlib.Omega.{arith}
-use borrow.Author.Tests.{le-leb, lt-leb}
-use lib.Dec.{lit<}
-use lib.ListN.{length, take, drop}
+use Rattle.std.proofs.Common.{subst, ◌≡◌, refl, sym, ap, ◌∙◌, Bool, true, false, cond, List, [], ◌∷◌, ◌++◌, ℕ, ◌^◌, ◌≤◌, ◌<◌, arith, le-leb, lit<, length, take, drop}
+use borrow.Author.Tests.{lt-leb}
 use Rattle.codec.specs.Outcome.{Outcome, given, refusal, isGiven}
 use Rattle.codec.proofs.FieldLaws.{Field, byte, number, run, row, row-append, ◌&◌, nil, At, ReadAt, row_read}
 use Rattle.region.specs.Error.{checkOutcome}
@@ -141,7 +135,7 @@ entry_row e = sym (row-append (frontBytes (frontOf e) e.name) (places e))
 module _ {e : RawEntry} (fits : Fits e) (rest : List ℕ) where
   field_at : (k : ℕ) → At (ReadAt (entryBytes e ++ rest)) 0 (front e ++ places e) k
   field_at =
-      rw (entry_row e)
+      subst (λ (s : List ℕ). (k : ℕ) → At (ReadAt (s ++ rest)) 0 (front e ++ places e) k) (sym (entry_row e))
       (row_read (front e ++ places e) 0
       (fits.seq
       & fits.kind

@@ -1,8 +1,5 @@
 -- Laws of an entry's layout: its length, and the parts that are read where their bytes are there.
-use mathlib.Core.Path.{◌≡◌}
-use mathlib.Core.List.{List}
-use Prim.Native.Nat.{ℕ}
-use lib.ListN.{length, length-append}
+use Rattle.std.proofs.Common.{◌≡◌, List, ℕ, length, length-append}
 use Rattle.codec.proofs.CursorLaws.{length-bytes}
 use Rattle.entry.specs.Layout.{frontBytes, placesBytes, partsBytes}
 use Rattle.entry.specs.declared.layout.EntryFront.{EntryFront}

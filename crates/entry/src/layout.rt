@@ -6,7 +6,7 @@ ghost use Rattle.codec.specs.Cursor.{write, writtenAnswer};
 ghost use Rattle.region.specs.Error.{encodedOutcome, fitted, held};
 ghost use Rattle.entry.specs.Layout.{rawFront, frontOutcome, rawPlaces, placesOutcome, frontBytes, placesBytes, partsBytes};
 
-use codec::codec::{ReadU8, ReadU16, ReadU32, ReadU64, Reader, Writer, Written};
+use codec::codec::{Read, Reader, Writer, Written};
 use region::meta::{MetaEncoded, MetaError};
 
 // The numbers of an entry in front of its places.
@@ -53,29 +53,29 @@ pub fn read_front(bytes: &[u8]) -> EntryFrontRead
     ensures { frontOutcome result ≡ held 40 bytes.now (rawFront bytes.now) }
 {
     let r = Reader::new();
-    let ReadU32::Value(seq, r) = r.u32(bytes) else {
+    let Read::Value(seq, r) = r.u32(bytes) else {
         return EntryFrontRead::Truncated;
     };
-    let ReadU8::Value(kind, r) = r.u8(bytes) else {
+    let Read::Value(kind, r) = r.u8(bytes) else {
         return EntryFrontRead::Truncated;
     };
-    let ReadU8::Value(state, r) = r.u8(bytes) else {
+    let Read::Value(state, r) = r.u8(bytes) else {
         return EntryFrontRead::Truncated;
     };
-    let ReadU8::Value(flags, r) = r.u8(bytes) else {
+    let Read::Value(flags, r) = r.u8(bytes) else {
         return EntryFrontRead::Truncated;
     };
-    let ReadU8::Value(compat_flags, _) = r.u8(bytes) else {
+    let Read::Value(compat_flags, _) = r.u8(bytes) else {
         return EntryFrontRead::Truncated;
     };
     let r = Reader { pos: 32 };
-    let ReadU32::Value(tag, r) = r.u32(bytes) else {
+    let Read::Value(tag, r) = r.u32(bytes) else {
         return EntryFrontRead::Truncated;
     };
-    let ReadU16::Value(extent_count, r) = r.u16(bytes) else {
+    let Read::Value(extent_count, r) = r.u16(bytes) else {
         return EntryFrontRead::Truncated;
     };
-    let ReadU16::Value(reserved, _) = r.u16(bytes) else {
+    let Read::Value(reserved, _) = r.u16(bytes) else {
         return EntryFrontRead::Truncated;
     };
     EntryFrontRead::Fields(EntryFront {
@@ -95,25 +95,25 @@ pub fn read_places(bytes: &[u8]) -> EntryPlacesRead
     ensures { placesOutcome result ≡ held 96 bytes.now (rawPlaces bytes.now) }
 {
     let r = Reader { pos: 40 };
-    let ReadU64::Value(header_a, r) = r.u64(bytes) else {
+    let Read::Value(header_a, r) = r.u64(bytes) else {
         return EntryPlacesRead::Truncated;
     };
-    let ReadU64::Value(header_b, r) = r.u64(bytes) else {
+    let Read::Value(header_b, r) = r.u64(bytes) else {
         return EntryPlacesRead::Truncated;
     };
-    let ReadU64::Value(data_size, r) = r.u64(bytes) else {
+    let Read::Value(data_size, r) = r.u64(bytes) else {
         return EntryPlacesRead::Truncated;
     };
-    let ReadU64::Value(capacity, r) = r.u64(bytes) else {
+    let Read::Value(capacity, r) = r.u64(bytes) else {
         return EntryPlacesRead::Truncated;
     };
-    let ReadU64::Value(span_start, r) = r.u64(bytes) else {
+    let Read::Value(span_start, r) = r.u64(bytes) else {
         return EntryPlacesRead::Truncated;
     };
-    let ReadU64::Value(span_end, r) = r.u64(bytes) else {
+    let Read::Value(span_end, r) = r.u64(bytes) else {
         return EntryPlacesRead::Truncated;
     };
-    let ReadU64::Value(footprint_seq, _) = r.u64(bytes) else {
+    let Read::Value(footprint_seq, _) = r.u64(bytes) else {
         return EntryPlacesRead::Truncated;
     };
     EntryPlacesRead::Fields(EntryPlaces {

@@ -1,4 +1,5 @@
 // Layer 3: table entries.
 #![tactic(auto)]
+
 mod layout;
 pub mod meta2;

@@ -28,7 +28,7 @@ ghost use Rattle.entry.specs.Check.{fieldsCheck, accepted, entryOutcome, checkEn
 use crate::layout::{
     EntryFront, EntryFrontRead, EntryPlaces, EntryPlacesRead, read_front, read_places, write_parts,
 };
-use codec::codec::{ReadBytes, Reader};
+use codec::codec::{Read, Reader};
 use entry_check::meta2::{
     ReservedSpan, check_content, check_footprint, check_header, check_known, check_sizes,
     check_span, check_state, widened_span,
@@ -158,15 +158,12 @@ impl RawEntry {
         let EntryFrontRead::Fields(front) = read_front(bytes) else {
             return truncated();
         };
-        let name_read = Reader { pos: 8 }.array24(bytes);
-        let name_answer = name_read.answer;
-        let ReadBytes::At(_, _) = name_answer else {
+        let Read::Value(name, _) = Reader { pos: 8 }.array(bytes) else {
             return truncated();
         };
         let EntryPlacesRead::Fields(places) = read_places(bytes) else {
             return truncated();
         };
-        let name = name_read.bytes;
         RawEntryRead {
             answer: Check::Pass,
             entry: RawEntry {
@@ -191,6 +188,7 @@ impl RawEntry {
     }
 
     // Writes the entry to the first 96 bytes of `out`, zeros at 38. A refusal keeps `out`.
+    #[tactic(auto, unfolding(crate::specs::Entry::entryBytes))]
     pub fn write(self, out: &mut [u8]) -> MetaEncoded
         ensures result_value { encodedOutcome result ≡ fitted 96 out.old }
         ensures out_after { out.new ≡ putWhole out.old 0 (entryBytes self) }
@@ -219,6 +217,7 @@ impl RawEntry {
     }
 
     // The per-entry checks. An entry that fails them makes its region unavailable; the page itself stands.
+    #[tactic(auto, unfolding(crate::specs::Check::checkEntry, crate::specs::Check::checkedName))]
     pub fn check(self, lim: EntryLimits) -> Checked
         ensures answer_value { entryOutcome result.answer ≡ checkEntry self lim }
         ensures name_value { result.name ≡ checkedName self lim }
@@ -240,6 +239,7 @@ impl RawEntry {
     }
 
     // The entry's name, when it decodes (whatever else fails): a name an unavailable entry keeps reserved.
+    #[tactic(auto, unfolding(crate::specs::Entry::foundName))]
     pub fn name(self) -> FoundName
         ensures found_value { result.found ≡ foundName self.name }
         ensures name_value { result.name ≡ paddedName self.name }
@@ -255,6 +255,7 @@ impl RawEntry {
     }
 
     // The entry's name and kind, when both decode (so an entry that fails the per-entry checks can still be named in a report).
+    #[tactic(auto, unfolding(crate::specs::Entry::foundKind, crate::specs::Entry::foundKindName))]
     pub fn name_and_kind(self) -> NameAndKind
         ensures kind_value { result.kind ≡ foundKind self }
         ensures name_value { result.name ≡ foundKindName self }
@@ -298,6 +299,7 @@ impl RawEntry {
 
 impl Entry2 {
     // The entry as stored (for writing it back).
+    #[tactic(auto, unfolding(crate::specs::Entry::toRaw))]
     pub fn to_raw(self, name: RegionName) -> RawEntry
         ensures { result ≡ toRaw self name }
     {
@@ -325,6 +327,7 @@ impl Entry2 {
 }
 
 // The answer to fewer than 96 bytes.
+#[tactic(auto, unfolding(crate::specs::Entry::noEntry))]
 fn truncated() -> RawEntryRead
     ensures answer_value { result.answer ≡ Check.Fail MetaError.Length }
     ensures result_value { result.entry ≡ noEntry }
@@ -413,6 +416,7 @@ fn check_fields(e: RawEntry, name: Check, lim: EntryLimits) -> Check
 }
 
 // The entry that is kept of one that passed.
+#[tactic(auto, unfolding(crate::specs::Check::accepted, region::specs::Kind::kind_of))]
 fn accepted(e: RawEntry) -> Entry2Read
     ensures { entryOutcome result ≡ accepted e }
 {
