@@ -1,5 +1,6 @@
 // Layer 2: the header of a slot as it is written, through the cursor, in the order of the layout.
 #![tactic(auto)]
+
 ghost use Rattle.std.specs.Prelude.{◌≡◌, length};
 ghost use Rattle.codec.specs.Bytes.{putWhole};
 ghost use Rattle.codec.specs.Cursor.{write, writtenAnswer};
