@@ -1,12 +1,7 @@
 -- The lines of a text as they are written: a line's characters, the verdicts that are left, and a text with room or without.
-use mathlib.Core.Path.{◌≡◌, refl, sym, ap, ◌∙◌}
-use mathlib.Core.List.{List, [], ◌∷◌, ◌++◌}
-use Prim.Native.Nat.{ℕ, zero, suc, ◌+◌, ◌-◌, ◌*◌, ◌/◌, ◌%◌, ◌≤◌, ◌<◌}
-use native.Mathlib.Nat.{sub-zero, sub-eq-zero_of_le, zero-add}
-use native.Mathlib.Omega.{arith}
-use lib.ListN.{length, get_or, take, drop, length-append, length-drop}
-use lib.Seq.{drop-drop, length-take-le}
-use borrow.Author.Tests.{le-leb, lt-leb}
+use Rattle.std.proofs.Common.{◌≡◌, refl, sym, ap, ◌∙◌, List, [], ◌∷◌, ◌++◌, ℕ, zero, suc, ◌+◌, ◌-◌, ◌*◌, ◌/◌, ◌%◌, ◌≤◌, ◌<◌, sub-eq-zero_of_le, zero-add, arith, length, get_or, take, drop, length-append, length-drop, drop-drop, length-take-le, le-leb}
+use Rattle.std.proofs.Math.Nat.{sub-zero}
+use borrow.Author.Tests.{lt-leb}
 use Rattle.codec.specs.Bytes.{put, putWhole}
 use Rattle.codec.proofs.CursorLaws.{length-bytes, put_whole, put-none, put-more}
 use Rattle.cases.specs.Line.{newline}

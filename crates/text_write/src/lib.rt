@@ -1,5 +1,6 @@
 // The lines that program `verdicts` prints: a line a pair, then one line for the store; or the line of a refusal.
 #![tactic(auto)]
+
 ghost use Rattle.std.specs.Prelude.{◌≡◌, ◌+◌, ◌*◌, ◌≤◌, ◌<◌, length, get_or};
 ghost use Rattle.codec.specs.Bytes.{put, putWhole};
 ghost use Rattle.judge_frames.specs.Frames.{verdictWidth};
@@ -16,6 +17,7 @@ pub const VERDICT_LINE: usize = 2 * VERDICT + 1;
 
 pub const LAST_LINE: usize = 17;
 
+#[tactic(auto, unfolding(crate::specs::Write::hexDigit))]
 fn digit(v: u8) -> u8
     requires { v < 16 }
     ensures { result ≡ hexDigit v }
