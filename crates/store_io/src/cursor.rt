@@ -3,10 +3,10 @@
 // A refusal, 6 for a read and 7 for a write, leaves the position, the value and every byte as they were.
 ghost use Rattle.std.specs.Prelude.{◌≡◌, length, replicate};
 ghost use Rattle.codec.specs.Bytes.{bytes, putWhole};
-ghost use Rattle.codec.specs.Cursor.{read, readBytes, readArray, write, remaining};
+ghost use Rattle.codec.specs.Cursor.{read, read_run, read_array, write, remaining};
 ghost use Rattle.store_io.specs.Host.{refusalOf, positionOr, valueOr};
 
-use codec::codec::{ReadBytes, ReadU8, ReadU16, ReadU32, ReadU64, Reader, Writer, Written};
+use codec::codec::{Read, Reader, Writer, Written};
 
 // How many bytes of `buf` are left to read at `position`.
 #[unsafe(no_mangle)]
@@ -24,7 +24,7 @@ pub extern "C" fn sio_read_u8(buf: &[u8], position: &mut usize, value: &mut u8) 
     ensures value_after { value.new ≡ valueOr value.old (read 1 buf.now position.old) }
 {
     let reader = Reader { pos: *position };
-    let ReadU8::Value(v, next) = reader.u8(buf) else {
+    let Read::Value(v, next) = reader.u8(buf) else {
         return 6;
     };
     *value = v;
@@ -40,7 +40,7 @@ pub extern "C" fn sio_read_u16(buf: &[u8], position: &mut usize, value: &mut u16
     ensures value_after { value.new ≡ valueOr value.old (read 2 buf.now position.old) }
 {
     let reader = Reader { pos: *position };
-    let ReadU16::Value(v, next) = reader.u16(buf) else {
+    let Read::Value(v, next) = reader.u16(buf) else {
         return 6;
     };
     *value = v;
@@ -56,7 +56,7 @@ pub extern "C" fn sio_read_u32(buf: &[u8], position: &mut usize, value: &mut u32
     ensures value_after { value.new ≡ valueOr value.old (read 4 buf.now position.old) }
 {
     let reader = Reader { pos: *position };
-    let ReadU32::Value(v, next) = reader.u32(buf) else {
+    let Read::Value(v, next) = reader.u32(buf) else {
         return 6;
     };
     *value = v;
@@ -72,7 +72,7 @@ pub extern "C" fn sio_read_u64(buf: &[u8], position: &mut usize, value: &mut u64
     ensures value_after { value.new ≡ valueOr value.old (read 8 buf.now position.old) }
 {
     let reader = Reader { pos: *position };
-    let ReadU64::Value(v, next) = reader.u64(buf) else {
+    let Read::Value(v, next) = reader.u64(buf) else {
         return 6;
     };
     *value = v;
@@ -88,12 +88,12 @@ pub extern "C" fn sio_read_bytes(
     count: usize,
     value: &mut usize,
 ) -> u32
-    ensures value { result ≡ refusalOf (readBytes count buf.now position.old) }
-    ensures position_after { position.new ≡ positionOr position.old (readBytes count buf.now position.old) }
-    ensures value_after { value.new ≡ valueOr value.old (readBytes count buf.now position.old) }
+    ensures value { result ≡ refusalOf (read_run count buf.now position.old) }
+    ensures position_after { position.new ≡ positionOr position.old (read_run count buf.now position.old) }
+    ensures value_after { value.new ≡ valueOr value.old (read_run count buf.now position.old) }
 {
     let reader = Reader { pos: *position };
-    let ReadBytes::At(start, next) = reader.bytes(buf, count) else {
+    let Read::Value(start, next) = reader.bytes(buf, count) else {
         return 6;
     };
     *value = start;
@@ -104,17 +104,14 @@ pub extern "C" fn sio_read_bytes(
 // Reads 16 bytes.
 #[unsafe(no_mangle)]
 pub extern "C" fn sio_read_array16(buf: &[u8], position: &mut usize, value: &mut [u8; 16]) -> u32
-    ensures value { result ≡ refusalOf (readArray 16 buf.now position.old) }
-    ensures position_after { position.new ≡ positionOr position.old (readArray 16 buf.now position.old) }
-    ensures value_after { value.new ≡ valueOr value.old (readArray 16 buf.now position.old) }
+    ensures value { result ≡ refusalOf (read_array 16 buf.now position.old) }
+    ensures position_after { position.new ≡ positionOr position.old (read_array 16 buf.now position.old) }
+    ensures value_after { value.new ≡ valueOr value.old (read_array 16 buf.now position.old) }
 {
     let reader = Reader { pos: *position };
-    let got = reader.array16(buf);
-    let answer = got.answer;
-    let ReadBytes::At(start, next) = answer else {
+    let Read::Value(bytes, next) = reader.array(buf) else {
         return 6;
     };
-    let bytes = got.bytes;
     *value = bytes;
     *position = next.pos;
     0
@@ -123,17 +120,14 @@ pub extern "C" fn sio_read_array16(buf: &[u8], position: &mut usize, value: &mut
 // Reads 24 bytes.
 #[unsafe(no_mangle)]
 pub extern "C" fn sio_read_array24(buf: &[u8], position: &mut usize, value: &mut [u8; 24]) -> u32
-    ensures value { result ≡ refusalOf (readArray 24 buf.now position.old) }
-    ensures position_after { position.new ≡ positionOr position.old (readArray 24 buf.now position.old) }
-    ensures value_after { value.new ≡ valueOr value.old (readArray 24 buf.now position.old) }
+    ensures value { result ≡ refusalOf (read_array 24 buf.now position.old) }
+    ensures position_after { position.new ≡ positionOr position.old (read_array 24 buf.now position.old) }
+    ensures value_after { value.new ≡ valueOr value.old (read_array 24 buf.now position.old) }
 {
     let reader = Reader { pos: *position };
-    let got = reader.array24(buf);
-    let answer = got.answer;
-    let ReadBytes::At(start, next) = answer else {
+    let Read::Value(bytes, next) = reader.array(buf) else {
         return 6;
     };
-    let bytes = got.bytes;
     *value = bytes;
     *position = next.pos;
     0
