@@ -1,14 +1,16 @@
 // Layer 2: what one slot's bytes hold: its status, and what its header shows whether or not the slot is valid.
 #![tactic(auto)]
+
 ghost use Rattle.std.specs.Prelude.{◌≡◌, ◌≤◌, length, take};
 ghost use Rattle.codec.specs.Bytes.{same, allZero};
 ghost use Rattle.slot.specs.Status.{statusNumbers, factsNumbers};
 ghost use Rattle.slot.specs.Read.{magic, lengthOk, payloadOk, validate, headerFacts};
 
-use codec::codec::{ReadU32, Reader};
+use codec::codec::{Read, Reader};
 use slot::slot::{Expect, HeaderFacts, NumberedHeader, Parsed, SlotInfo, SlotStatus};
 
 // Validates one slot read from `e.slot_offset`.
+#[tactic(auto, unfolding(slot::specs::Read::validate))]
 pub fn validate(slot: &[u8], e: Expect) -> SlotStatus
     ensures value { result ≡ validate slot.now e }
     ensures result_value { statusNumbers result ≡ statusNumbers (validate slot.now e) }
@@ -31,6 +33,7 @@ pub fn validate(slot: &[u8], e: Expect) -> SlotStatus
 }
 
 // What `slot`'s header shows: nothing where the length is wrong, the slot is blank or its magic does not stand.
+#[tactic(auto, unfolding(slot::specs::Read::headerFacts, codec::specs::Cursor::step))]
 pub fn header_facts(slot: &[u8], e: Expect) -> HeaderFacts
     ensures value { result ≡ headerFacts slot.now e }
     ensures result_value { factsNumbers result ≡ factsNumbers (headerFacts slot.now e) }
@@ -44,7 +47,7 @@ pub fn header_facts(slot: &[u8], e: Expect) -> HeaderFacts
     if !has_magic(slot) {
         return HeaderFacts::Nothing;
     }
-    let ReadU32::Value(stored, _) = Reader { pos: 8 }.u32(slot) else {
+    let Read::Value(stored, _) = Reader { pos: 8 }.u32(slot) else {
         return HeaderFacts::Nothing;
     };
     match header_read::parse_header(slot, e) {
@@ -61,6 +64,7 @@ pub fn header_facts(slot: &[u8], e: Expect) -> HeaderFacts
 }
 
 // Whether a slot of this length has the size that is expected.
+#[tactic(auto, using(slot::proofs::ReadLaws::tests), unfolding(slot::specs::Read::lengthOk))]
 fn length_ok(len: usize, log2: u8) -> bool
     ensures { result ≡ lengthOk len log2 }
 {
@@ -90,6 +94,7 @@ fn has_magic(slot: &[u8]) -> bool
 }
 
 // Whether the payload passes its CRC.
+#[tactic(auto, unfolding(slot::specs::Read::payload, slot::specs::Read::payloadOk))]
 fn payload_ok(slot: &[u8], info: SlotInfo, payload_crc: u32) -> bool
     ensures { result ≡ payloadOk slot.now info payload_crc }
 {
