@@ -1,11 +1,12 @@
 // Layer 3: what a page asks of its entries, 96 bytes each: that their sequence numbers were given out, that no two are the same, and that
 // the bytes at 38 are zero.
 #![tactic(auto)]
+
 ghost use Rattle.std.specs.Prelude.{◌≡◌, ◌+◌, ◌*◌, ◌/◌, ◌≤◌, length};
 ghost use Rattle.region.specs.Error.{checkOutcome};
 ghost use Rattle.page_entries.specs.Entries.{contains, seqs, entryCheck, entriesCheck};
 
-use codec::codec::{ReadU16, ReadU32, Reader};
+use codec::codec::{Read, Reader};
 use region::meta::{Check, MetaError};
 
 // The page's checks, by entry, of all the entries that the bytes hold.
@@ -29,13 +30,13 @@ fn check_entry(entries: &[u8], following: usize, next_seq: u32) -> Check
     requires { 96 + following * 96 ≤ length entries.now }
     ensures { checkOutcome result ≡ entryCheck next_seq following entries.now }
 {
-    let ReadU32::Value(seq, _) = Reader { pos: 0 }.u32(entries) else {
+    let Read::Value(seq, _) = Reader { pos: 0 }.u32(entries) else {
         return Check::Fail(MetaError::Length);
     };
     if next_seq <= seq {
         return Check::Fail(MetaError::Field(31));
     }
-    let ReadU16::Value(reserved, _) = Reader { pos: 38 }.u16(entries) else {
+    let Read::Value(reserved, _) = Reader { pos: 38 }.u16(entries) else {
         return Check::Fail(MetaError::Length);
     };
     if reserved != 0 {
@@ -74,7 +75,7 @@ fn seq_among(entries: &[u8], count: usize, seq: u32) -> bool
     while i < count {
         let start = i * 96;
         let end = start + 96;
-        let ReadU32::Value(other, _) = Reader { pos: 0 }.u32(&entries[start..end]) else {
+        let Read::Value(other, _) = Reader { pos: 0 }.u32(&entries[start..end]) else {
             return false;
         };
         if other == seq {
