@@ -1,15 +1,8 @@
 -- The lines by their newlines give the mark and the frames that the code finds by their widths, for every text. A newline is no digit: a
 -- line of digits ends at the first newline, which stands where the code asks for one.
-use mathlib.Core.Path.{◌≡◌, refl, sym, ap, ◌∙◌}
-use mathlib.Core.Bool.{Bool, true, false, cond}
-use mathlib.Core.List.{List, [], ◌∷◌, ◌++◌}
-use mathlib.Core.Option.{Option, some, none}
-use Prim.Native.Nat.{ℕ, zero, suc, ◌*◌, ◌≤◌, ◌<◌}
-use native.Mathlib.Omega.{arith}
-use borrow.Author.Tests.{eq-eqb, ne_eqb, eqb-true}
-use lib.Dec.{eqb}
-use lib.ListN.{length, get_or, take, drop, length-append, length-drop}
-use lib.Seq.{split_at, take_at, get_or_at}
+use Rattle.std.proofs.Common.{◌≡◌, refl, sym, ap, ◌∙◌, Bool, true, false, cond, List, [], ◌∷◌, ◌++◌, ℕ, zero, suc, ◌*◌, ◌≤◌, ◌<◌, arith, eq-eqb, ne_eqb, eqb-true, eqb, length, get_or, take, drop, length-append, length-drop, take_at}
+use Rattle.std.proofs.Math.Option.{Option, some, none}
+use Rattle.std.proofs.Math.Seq.{split_at, get_or_at}
 use Rattle.cases.specs.Hex.{hexValue, decoded}
 use Rattle.cases.specs.Line.{newline}
 use Rattle.cases.proofs.HexLaws.{digits-here, left-more}

@@ -1,14 +1,6 @@
 -- The whole text by the tests that `respond` makes, in their order.
-use mathlib.Core.Path.{◌≡◌, refl, ap}
-use mathlib.Core.Bool.{Bool, true, false, cond}
-use mathlib.Core.List.{List, [], ◌∷◌}
-use mathlib.Core.Option.{Option, some, none}
-use Prim.Native.Nat.{ℕ, ◌≤◌, ◌<◌}
-use native.Mathlib.Omega.{arith}
-use lib.Dec.{leb, ltb}
-use lib.ListN.{length, take, drop}
-use lib.Seq.{take_all}
-use borrow.Author.Tests.{le-leb, leb-true, ltb-false}
+use Rattle.std.proofs.Common.{◌≡◌, refl, ap, Bool, true, false, cond, List, [], ◌∷◌, ℕ, ◌≤◌, ◌<◌, arith, leb, ltb, length, take, drop, take_all, le-leb, leb-true, ltb-false}
+use Rattle.std.proofs.Math.Option.{Option, some, none}
 use Rattle.codec.specs.Bytes.{put}
 use Rattle.verdict_text.specs.declared.Responded.{Responded}
 use Rattle.verdict_text.specs.Read.{withLine, lines, mark_of, framesOf}

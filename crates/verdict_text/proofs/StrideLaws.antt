@@ -1,16 +1,9 @@
 -- A text's lines as the code finds them: one line, those that are left, the frames of all of them and of those in front of a bad one, the mark.
-use mathlib.Core.Path.{◌≡◌, refl, sym, ap, ap₂, ◌∙◌}
-use mathlib.Core.Bool.{Bool, true, false, cond}
-use mathlib.Core.List.{List, [], ◌∷◌, ◌++◌, append_assoc}
-use mathlib.Core.Option.{Option, some, none}
-use Prim.Native.Nat.{ℕ, zero, suc, ◌+◌, ◌-◌, ◌*◌, ◌≤◌, ◌<◌}
-use native.Mathlib.Nat.{sub-zero, sub-eq-zero_of_le}
-use native.Mathlib.Omega.{arith}
-use lib.Dec.{eqb, leb}
-use lib.ListN.{length, get_or, take, drop, length-append, length-drop, take-append-drop}
-use lib.Seq.{drop-drop, take_at, length-take-le}
+use Rattle.std.proofs.Common.{◌≡◌, refl, sym, ap, ap₂, ◌∙◌, Bool, true, false, cond, List, [], ◌∷◌, ◌++◌, append_assoc, ℕ, zero, suc, ◌+◌, ◌-◌, ◌*◌, ◌≤◌, ◌<◌, sub-eq-zero_of_le, arith, eqb, leb, length, get_or, take, drop, length-append, length-drop, take-append-drop, drop-drop, take_at, length-take-le, eq-eqb, ne_eqb, eqb-true, le-leb, leb-true}
+use Rattle.std.proofs.Math.Option.{Option, some, none}
+use Rattle.std.proofs.Math.Nat.{sub-zero}
 use borrow.Rule.Slice.PartMut.{put_mid}
-use borrow.Author.Tests.{eq-eqb, ne_eqb, eqb-true, le-leb, lt-leb, leb-true}
+use borrow.Author.Tests.{lt-leb}
 use Rattle.codec.specs.Bytes.{put}
 use Rattle.codec.proofs.CursorLaws.{put-parts, put-prefix, part-front, part-behind}
 use Rattle.cases.specs.Hex.{decoded, is_some, bytes_of, decodeAnswer}
@@ -226,9 +219,9 @@ mark-length (a ∷ []) is = absurd (omega arith)
 mark-length (a ∷ b ∷ []) is = absurd (omega arith)
 mark-length (a ∷ b ∷ c ∷ s) is = omega arith
 
-pub mark-short : (s : List ℕ) → length s < 3 → 2 ≡ markAt s
+pub mark_short : (s : List ℕ) → length s < 3 → 2 ≡ markAt s
 unfolding markAt
-mark-short [] short = refl
-mark-short (a ∷ []) short = refl
-mark-short (a ∷ b ∷ []) short = refl
-mark-short (a ∷ b ∷ c ∷ s) short = absurd (omega arith)
+mark_short [] short = refl
+mark_short (a ∷ []) short = refl
+mark_short (a ∷ b ∷ []) short = refl
+mark_short (a ∷ b ∷ c ∷ s) short = absurd (omega arith)

@@ -1,5 +1,6 @@
 // The text of program `verdicts`: what it prints for what it reads, as a function on slices.
 #![tactic(auto)]
+
 ghost use Rattle.std.specs.Prelude.{◌≡◌, ◌+◌, ◌*◌, ◌≤◌, length};
 ghost use Rattle.codec.specs.Bytes.{put};
 ghost use Rattle.cases.specs.Hex.{is_some, decodeAnswer, decodeOut};
@@ -40,6 +41,7 @@ pub enum Responded {
 // ---- the lines read
 
 // The clean mark by the first line, 2 where it is none.
+#[tactic(auto, using(crate::proofs::StrideLaws::mark_short), unfolding(crate::specs::Stride::markAt))]
 fn mark_of(text: &[u8]) -> u8
     ensures { result ≡ markAt text.now }
 {
