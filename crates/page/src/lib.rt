@@ -1,3 +1,4 @@
 // Layer 3: table pages as they are read.
 #![tactic(auto)]
+
 pub mod meta2;

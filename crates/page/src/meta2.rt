@@ -14,7 +14,7 @@ ghost use Rattle.codec.specs.Place.{Part};
 ghost use Rattle.page.specs.Read.{headerRead, decodePage, pageOutcome, entriesStart, entriesLength};
 
 use codec::bytes::all_zero;
-use codec::codec::{ReadBytes, ReadU16, ReadU32, Reader};
+use codec::codec::{Read, Reader};
 use page_entries::check_entries;
 use region::meta::{Check, MetaError};
 
@@ -110,16 +110,16 @@ fn read_header(bytes: &[u8]) -> HeaderRead
     ensures { result ≡ headerRead bytes.now }
 {
     let r = Reader::new();
-    let ReadU32::Value(page_index, r) = r.u32(bytes) else {
+    let Read::Value(page_index, r) = r.u32(bytes) else {
         return HeaderRead::Truncated;
     };
-    let ReadU32::Value(next_seq, r) = r.u32(bytes) else {
+    let Read::Value(next_seq, r) = r.u32(bytes) else {
         return HeaderRead::Truncated;
     };
-    let ReadU16::Value(count, r) = r.u16(bytes) else {
+    let Read::Value(count, r) = r.u16(bytes) else {
         return HeaderRead::Truncated;
     };
-    let ReadBytes::At(_, _) = r.bytes(bytes, 14) else {
+    let Read::Value(_, _) = r.bytes(bytes, 14) else {
         return HeaderRead::Truncated;
     };
     HeaderRead::Header(PageHeader {
