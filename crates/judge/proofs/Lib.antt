@@ -1,2 +1,2 @@
-pub mod SweepLaws
+pub mod RowLaws
 pub mod SameJudge

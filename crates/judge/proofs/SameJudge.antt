@@ -24,14 +24,13 @@ use Rattle.verdict.specs.Verdict.{verdictBytes}
 use Rattle.verdict.specs.Judge.{refusedRow, verdicts}
 use Rattle.judge_frames.specs.Frames.{verdictWidth, judged, judgedBytes, framesOf}
 use Rattle.judge_frames.proofs.FilledLaws.{Filled, AllFilled, filled-judged, filled-bytes}
-use Rattle.judge_step.specs.declared.SlotRead.{SlotRead}
-use Rattle.judge_step.specs.declared.PairRead.{PairRead}
-use Rattle.judge_step.specs.Step.{partRead}
-use Rattle.judge_step.specs.contracts.SlotRead as R
-use Rattle.judge_step.proofs.SlotRead.TheLaws as R'
-use Rattle.judge_step.specs.contracts.PairRead as P
-use Rattle.judge_step.proofs.PairRead.TheLaws as P'
-use Rattle.judge.specs.Row.{rowRead, rowJudged, rowVerdicts}
+use Rattle.judge.specs.declared.SlotRead.{SlotRead}
+use Rattle.judge.specs.declared.PairRead.{PairRead}
+use Rattle.judge.specs.contracts.SlotRead as R
+use Rattle.judge.proofs.SlotRead.TheLaws as R'
+use Rattle.judge.specs.contracts.PairRead as P
+use Rattle.judge.proofs.PairRead.TheLaws as P'
+use Rattle.judge.specs.Row.{partRead, rowRead, rowJudged, rowVerdicts}
 
 -- ---- what the types of the row's records say of its values
 

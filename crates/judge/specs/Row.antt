@@ -1,12 +1,21 @@
 -- The store verdict over a row of pairs as they were read (document 01, "Store verdict"; judge.rs): the same verdict as over the parts
 -- that a frame is filled with.
 use Rattle.std.specs.Prelude.{Bool, cond, List, [], ◌∷◌, ℕ, eqb, length}
+use Rattle.frame.specs.declared.frame.SlotPart.{SlotPart}
+use Rattle.frame.specs.Frame.{part_of}
 use Rattle.candidate.specs.declared.pairs.PairPart.{PairPart}
 use Rattle.verdict.specs.declared.verdict.PairVerdict.{PairVerdict}
 use Rattle.verdict.specs.declared.verdict.Judged.{Judged}
 use Rattle.verdict.specs.Judge.{refusedRow, verdicts, judgeRow}
-use Rattle.judge_step.specs.declared.PairRead.{PairRead}
-use Rattle.judge_step.specs.Step.{pairRead}
+use Rattle.judge.specs.declared.SlotRead.{SlotRead}
+use Rattle.judge.specs.declared.PairRead.{PairRead}
+
+-- What a frame is filled with of a slot as it was read, and of a pair.
+abbrev pub partRead : SlotRead → SlotPart
+partRead s = part_of s.status s.facts
+
+abbrev pub pairRead : PairRead → PairPart
+pairRead p = record { a = partRead p.a; b = partRead p.b }
 
 abbrev pub rowRead : List PairRead → List PairPart
 rowRead [] = []
