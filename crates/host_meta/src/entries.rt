@@ -10,6 +10,7 @@ use name::meta::RegionName;
 use region::meta::Check;
 
 // The answer of `check` for the entry in the first 96 bytes.
+#[tactic(auto, unfolding(crate::specs::Metadata::checkedAt, crate::specs::Metadata::checkedNameAt))]
 pub fn check_at(
     entry: &[u8],
     log2_block: u8,
