@@ -1,8 +1,5 @@
 -- What `encode` writes is bytes.
-use mathlib.Core.Path.{refl}
-use mathlib.Core.List.{List, [], ◌++◌}
-use Prim.Native.Nat.{ℕ, ◌+◌, ◌-◌, ◌^◌}
-use lib.ListN.{length, replicate}
+use Rattle.std.proofs.Common.{refl, List, [], ◌++◌, ℕ, ◌+◌, ◌-◌, ◌^◌, length, replicate}
 use Rattle.codec.specs.Bytes.{AllBytes}
 use Rattle.codec.specs.Crc32c.{crc32c}
 use Rattle.codec.proofs.CursorLaws.{append-bytes, zero-bytes, bytes-tested}

@@ -1,15 +1,7 @@
 -- The slot that a cut write left, by its header: the new one, the old one, or one whose magic stands and which fails its checksum. That
 -- is the only place where the number of bytes counts.
-use mathlib.Core.Path.{◌≡◌, refl, sym, ap, ◌∙◌}
-use mathlib.Core.Logic.{◌⊎◌, inl, inr}
-use mathlib.Core.Bool.{Bool, true, false, cond}
-use mathlib.Core.List.{List, ◌++◌}
-use Prim.Native.Nat.{ℕ, ◌+◌, ◌≤◌}
-use native.Mathlib.Omega.{arith}
-use borrow.Author.Tests.{eqb-true}
-use lib.Dec.{ltb, eqb}
-use lib.ListN.{length, take, drop, length-append, length-take, length-drop}
-use lib.Seq.{take-append-le, take-take, length-take-le}
+use Rattle.std.proofs.Common.{◌≡◌, refl, sym, ap, ◌∙◌, ◌⊎◌, inl, inr, Bool, true, false, cond, List, ◌++◌, ℕ, ◌+◌, ◌≤◌, arith, eqb-true, ltb, eqb, length, take, drop, length-append, length-take, length-drop, take-take, length-take-le}
+use Rattle.std.proofs.Math.Seq.{take-append-le}
 use Rattle.codec.specs.Bytes.{AllBytes, le16, le32, same}
 use Rattle.codec.specs.Crc32c.{crc32c}
 use Rattle.codec.proofs.CursorLaws.{take-bytes, drop-bytes, append-bytes}

@@ -1,12 +1,6 @@
 -- The frames filled from a store decode to its row of pairs, so that the judge over the frames is the judge over the row: what is read
 -- from bytes fits its field, and no value is out of range.
-use mathlib.Core.Path.{◌≡◌, refl, ap}
-use mathlib.Core.Bool.{Bool, true, false, cond, not}
-use mathlib.Core.List.{List, [], ◌∷◌}
-use Prim.Native.Nat.{ℕ, suc, ◌*◌, ◌≤◌, ◌<◌}
-use native.Mathlib.Omega.{arith}
-use borrow.Author.Tests.{eq-eqb, ne_eqb}
-use lib.ListN.{length, take}
+use Rattle.std.proofs.Common.{◌≡◌, refl, ap, Bool, true, false, cond, not, List, [], ◌∷◌, ℕ, suc, ◌*◌, ◌≤◌, ◌<◌, arith, eq-eqb, ne_eqb, length, take}
 use Rattle.codec.specs.Bytes.{AllBytes, le32, same, allZero, flag}
 use Rattle.codec.proofs.CursorLaws.{le-lt}
 use Rattle.slot.specs.Status.{code, validInfo}

@@ -1,12 +1,6 @@
 -- One pair, by what its slots are: its verdict, its winner, the record that is read back and its last written record. By the winner's
 -- index, for each look of the slot beside it.
-use mathlib.Core.Path.{◌≡◌, refl, sym, ap, subst, ◌∙◌}
-use mathlib.Core.Bool.{Bool, true, false, cond}
-use mathlib.Core.List.{List}
-use Prim.Native.Nat.{ℕ, ◌+◌, ◌≤◌, ◌<◌}
-use native.Mathlib.Omega.{arith}
-use borrow.Author.Tests.{eq-eqb, ne_eqb, lt-ltb, le-ltb}
-use lib.Dec.{leb, eqb}
+use Rattle.std.proofs.Common.{◌≡◌, refl, sym, ap, subst, ◌∙◌, Bool, true, false, cond, List, ℕ, ◌+◌, ◌≤◌, ◌<◌, arith, eq-eqb, ne_eqb, lt-ltb, le-ltb, leb, eqb}
 use Rattle.slot.specs.Status.{other, code, validInfo}
 use Rattle.slot.specs.Read.{payload, headerFacts}
 use Rattle.slot.specs.declared.slot.SlotIndex.{SlotIndex}

@@ -1,10 +1,6 @@
 -- The fields of a frame that are not given are ignored: the row of pairs as read is judged as the row of parts with anything in them.
-use mathlib.Core.Path.{◌≡◌, refl, ap, ap₂, fun_ext, ◌∙◌}
-use mathlib.Core.Bool.{Bool, true, false, cond}
-use mathlib.Core.List.{List, [], ◌∷◌}
-use Prim.Native.Nat.{ℕ, zero, suc, ◌+◌, ◌*◌, ◌≤◌, max}
-use lib.Dec.{eqb}
-use lib.ListN.{length}
+use Rattle.std.proofs.Common.{◌≡◌, refl, ap, ap₂, ◌∙◌, Bool, true, false, cond, List, [], ◌∷◌, ℕ, zero, suc, ◌+◌, ◌*◌, ◌≤◌, max, eqb, length}
+use Rattle.std.proofs.Math.Path.{fun_ext}
 use Rattle.slot.specs.Status.{code, validInfo}
 use Rattle.slot.specs.Read.{headerFacts}
 use Rattle.slot.specs.declared.slot.SlotIndex.{SlotIndex}

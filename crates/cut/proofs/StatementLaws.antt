@@ -1,12 +1,6 @@
 -- What the proof of the cut theorem leaves open in its statement is held here: it goes through whatever mark the store is said to have or
 -- the judge is handed, whatever the decoders are said to accept, and where the frames or the read-back are said to hold less.
-use mathlib.Core.Path.{◌≡◌, refl, sym, ap, ap₂, ◌∙◌}
-use mathlib.Core.Bool.{Bool, true, false, cond}
-use mathlib.Core.List.{List, ◌∷◌, ◌++◌}
-use Prim.Native.Nat.{ℕ, ◌+◌}
-use lib.Dec.{eqb}
-use lib.ListN.{length, get_or, take, drop}
-use denote.Ref.{Bor}
+use Rattle.std.proofs.Common.{◌≡◌, refl, sym, ap, ap₂, ◌∙◌, Bool, true, false, cond, List, ◌∷◌, ◌++◌, ℕ, ◌+◌, eqb, length, get_or, take, drop, Bor}
 use Rattle.codec.specs.Outcome.{Outcome, given, refusal, isGiven}
 use Rattle.codec.specs.Place.{Part}
 use Rattle.slot.specs.Status.{code, validInfo}

@@ -1,13 +1,7 @@
 -- What `validate` and `header_facts` answer, taken apart: from an answer to the tests that were passed, and from the header's checksum to
 -- the answer. Each row of tests is gone through in its order.
-use mathlib.Core.Path.{◌≡◌, refl, sym, ap, ◌∙◌}
-use mathlib.Core.Bool.{Bool, true, false, cond, not}
-use mathlib.Core.List.{List, [], ◌∷◌}
-use Prim.Native.Nat.{ℕ, ◌≤◌}
-use native.Mathlib.Omega.{arith}
-use borrow.Author.Tests.{eq-eqb, le-leb, eqb-true, not-false}
-use lib.Dec.{leb, ltb, eqb}
-use lib.ListN.{length, take, drop}
+use Rattle.std.proofs.Common.{◌≡◌, refl, sym, ap, ◌∙◌, Bool, true, false, cond, not, List, [], ◌∷◌, ℕ, ◌≤◌, arith, eq-eqb, le-leb, eqb-true, leb, ltb, eqb, length, take, drop}
+use borrow.Author.Tests.{not-false}
 use Rattle.codec.specs.Bytes.{le16, le32, same, allZero}
 use Rattle.codec.proofs.RunLaws.{same_refl, same_true}
 use Rattle.slot.specs.Status.{code, validInfo}

@@ -1,14 +1,6 @@
 -- A correct write to a sound pair: `encode` refuses nothing, its fields fit and ask for what the slot is read with; the winner, the
 -- record before the write, and the slot that is written over.
-use mathlib.Core.Path.{◌≡◌, refl, sym, ap, ap₂, subst, ◌∙◌}
-use mathlib.Core.Bool.{Bool, true}
-use mathlib.Core.List.{List, ◌++◌}
-use Prim.Native.Nat.{ℕ, ◌-◌, ◌^◌, ◌≤◌, ◌<◌}
-use native.Mathlib.Omega.{arith}
-use borrow.Author.Tests.{eq-eqb, ne_eqb, lt-ltb, le-ltb}
-use lib.ListN.{length, take, drop}
-use lib.Pow.{pow_mono}
-use lib.Seq.{take_at, drop_at}
+use Rattle.std.proofs.Common.{◌≡◌, refl, sym, ap, ap₂, subst, ◌∙◌, Bool, true, List, ◌++◌, ℕ, ◌-◌, ◌^◌, ◌≤◌, ◌<◌, arith, eq-eqb, ne_eqb, lt-ltb, le-ltb, length, take, drop, pow_mono, take_at, drop_at}
 use Rattle.codec.specs.Bytes.{AllBytes, le32}
 use Rattle.codec.specs.Crc32c.{crc32c}
 use Rattle.codec.specs.Outcome.{given}

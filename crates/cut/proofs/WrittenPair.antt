@@ -1,15 +1,6 @@
 -- The written pair after the cut, by the header and the payload that the written slot was left with: its winner stands beside a slot that
 -- a crash explains, and what is read back is the new record if it stands whole, else the record before.
-use mathlib.Core.Path.{◌≡◌, refl, sym, ap, ap₂, subst, ◌∙◌}
-use mathlib.Core.Bool.{Bool, true, false, cond}
-use mathlib.Core.List.{List, ◌++◌}
-use Prim.Native.Nat.{ℕ, ◌+◌, ◌≤◌, ◌<◌}
-use native.Mathlib.Nat.{le_of_eq}
-use native.Mathlib.Omega.{arith}
-use borrow.Author.Tests.{eq-eqb, le-ltb, eqb-true}
-use lib.Dec.{eqb, lit≤}
-use lib.ListN.{length, take, drop, take-append-drop}
-use lib.Seq.{drop_at, take-add, length-take-le}
+use Rattle.std.proofs.Common.{◌≡◌, refl, sym, ap, ap₂, subst, ◌∙◌, Bool, true, false, cond, List, ◌++◌, ℕ, ◌+◌, ◌≤◌, ◌<◌, le_of_eq, arith, eq-eqb, le-ltb, eqb-true, eqb, lit≤, length, take, drop, take-append-drop, drop_at, take-add, length-take-le}
 use Rattle.codec.specs.Bytes.{le16, le32, same, allZero}
 use Rattle.codec.specs.Crc32c.{crc32c}
 use Rattle.codec.proofs.RunLaws.{same_true}

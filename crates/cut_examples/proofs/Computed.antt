@@ -1,10 +1,6 @@
 -- What is judged and read back after each cut of `CutExamples`, computed from the definitions without the theorem. The expected values
 -- follow from document 01's rules. How each slot is read is computed first, and from that the frames, the verdicts and the records.
-use mathlib.Core.Path.{◌≡◌, refl, ◌∙◌}
-use mathlib.Core.Bool.{Bool, true, false, cond}
-use mathlib.Core.List.{List, [], ◌∷◌}
-use Prim.Native.Nat.{ℕ}
-use lib.ListN.{replicate}
+use Rattle.std.proofs.Common.{◌≡◌, refl, ◌∙◌, Bool, true, false, cond, List, [], ◌∷◌, ℕ, replicate}
 use Rattle.codec.specs.Bytes.{le, bytes, flag}
 use Rattle.codec.specs.Crc32c.{crc32c, finalRemainder, remainder, digest, reversed}
 use Rattle.slot.specs.Read.{lengthOk, headerSum, integrity, numberOk, shape, place, check, parseHeader, payloadStart, payloadLength, payload as payloadOf, payloadOk}

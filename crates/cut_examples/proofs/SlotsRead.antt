@@ -1,9 +1,5 @@
 -- What is judged and read back after a cut follows from what `validate` and `header_facts` answer for each slot.
-use mathlib.Core.Path.{◌≡◌, refl, ap₂, subst, ◌∙◌}
-use mathlib.Core.Bool.{Bool, true, false, cond, not}
-use mathlib.Core.List.{List, [], ◌∷◌, ◌++◌}
-use Prim.Native.Nat.{ℕ}
-use lib.ListN.{length, take, replicate}
+use Rattle.std.proofs.Common.{◌≡◌, refl, ap₂, subst, ◌∙◌, Bool, true, false, cond, not, List, [], ◌∷◌, ◌++◌, ℕ, length, take, replicate}
 use Rattle.codec.specs.Bytes.{le32, same, allZero, flag}
 use Rattle.slot.specs.Read.{lengthOk, parseHeader, status as statusBy, validate, facts, headerFacts, magic, payload}
 use Rattle.slot.specs.declared.slot.SlotIndex.{SlotIndex}

@@ -2,15 +2,8 @@
 -- Blank one and to the volume record are correct, and cuts after no byte, in the header, in the payload and after the last byte are no
 -- accidents. The slots are what `encode` writes; the checksums are computed. What is judged and read back after these cuts is computed
 -- in crates/cut_examples.
-use mathlib.Core.Path.{◌≡◌, refl, sym, ap, subst, ◌∙◌}
-use mathlib.Core.Logic.{inl, inr}
-use mathlib.Core.Bool.{Bool, true, false, cond, not}
-use mathlib.Core.List.{List, [], ◌∷◌, ◌++◌}
-use Prim.Native.Nat.{ℕ, ◌+◌, ◌-◌, ◌*◌, ◌^◌, ◌≤◌, ◌<◌, max}
-use native.Mathlib.Omega.{arith}
-use borrow.Author.Tests.{leb-true, eqb-true, eq-eqb, not-true}
-use lib.Dec.{leb, eqb, lit≤, lit<}
-use lib.ListN.{length, get_or, take, replicate}
+use Rattle.std.proofs.Common.{◌≡◌, refl, sym, ap, subst, ◌∙◌, inl, inr, Bool, true, false, cond, not, List, [], ◌∷◌, ◌++◌, ℕ, ◌+◌, ◌-◌, ◌*◌, ◌^◌, ◌≤◌, ◌<◌, max, arith, leb-true, eqb-true, eq-eqb, leb, eqb, lit≤, lit<, length, get_or, take, replicate}
+use borrow.Author.Tests.{not-true}
 use Rattle.codec.specs.Bytes.{AllBytes, le, le16, le32, bytes, same}
 use Rattle.codec.specs.Crc32c.{crc32c, finalRemainder, remainder, digest, reversed}
 use Rattle.codec.proofs.CursorLaws.{append-bytes, zero-bytes, bytes-tested}

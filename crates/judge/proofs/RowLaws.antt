@@ -1,5 +1,5 @@
 -- What the passes leave of a row that is not refused is its judgement.
-use Rattle.std.proofs.Common.{◌≡◌, refl, sym, ap, ◌∙◌, Bool, true, List, [], ◌∷◌, ℕ, arith, length, eq-eqb, ne_eqb}
+use Rattle.std.proofs.Common.{◌≡◌, refl, sym, ap, ◌∙◌, Bool, true, List, [], ◌∷◌, ℕ, length, eq-eqb, ne_eqb}
 use Rattle.candidate.specs.declared.numbers.Maxima.{Maxima}
 use Rattle.candidate.specs.Numbers.{slots}
 use Rattle.candidate.specs.Maxima.{noMaxima, noteAll}

@@ -1,13 +1,6 @@
 -- Laws of a run of entries as a loop goes through it: what is left from the ith entry on, for any function that goes by count and drop.
-use mathlib.Core.Path.{◌≡◌, refl, sym, ap, ap₂, ◌∙◌}
-use mathlib.Core.Bool.{Bool, true, false, cond}
-use mathlib.Core.List.{List, ◌∷◌}
-use Prim.Native.Nat.{ℕ, zero, suc, ◌+◌, ◌-◌, ◌*◌, ◌≤◌, ◌<◌}
-use native.Mathlib.Nat.{sub-zero, sub-eq-zero_of_le, zero-add, suc-add}
-use native.Mathlib.Omega.{arith}
-use lib.Dec.{eqb}
-use lib.ListN.{take, drop}
-use lib.Seq.{drop-drop, get_or-take, get_or-drop}
+use Rattle.std.proofs.Common.{◌≡◌, refl, sym, ap, ap₂, ◌∙◌, Bool, true, false, cond, List, ◌∷◌, ℕ, zero, suc, ◌+◌, ◌-◌, ◌*◌, ◌≤◌, ◌<◌, sub-eq-zero_of_le, zero-add, suc-add, arith, eqb, take, drop, drop-drop, get_or-take, get_or-drop}
+use Rattle.std.proofs.Math.Nat.{sub-zero}
 use Rattle.codec.specs.Bytes.{le, le32}
 use Rattle.codec.proofs.CursorLaws.{le_same}
 use Rattle.page_entries.specs.Entries.{contains, seqs}

@@ -1,14 +1,7 @@
 -- Laws of a page both ways: a written page is read back as it was but for the zeros of its entries, and a page that decodes is written
 -- back byte for byte.
-use mathlib.Core.Path.{◌≡◌, refl, sym, ap, ap₂, ◌∙◌}
-use mathlib.Core.Bool.{Bool, true, false, cond, not}
-use mathlib.Core.List.{List, [], ◌∷◌, ◌++◌}
-use Prim.Native.Nat.{ℕ, zero, suc, ◌+◌, ◌*◌, ◌/◌, ◌%◌, ◌≤◌, ◌<◌}
-use native.Mathlib.Omega.{arith}
-use borrow.Author.Tests.{eq-eqb, lt-leb, le-ltb, leb-false, ltb-false, eqb-true, not-false}
-use lib.Dec.{leb, ltb, eqb, lit≤, lit<}
-use lib.ListN.{length, take, drop, replicate, length-append, length-drop, take-append-drop}
-use lib.Seq.{drop_at, take_all, take-add, length-take-le}
+use Rattle.std.proofs.Common.{◌≡◌, refl, sym, ap, ap₂, ◌∙◌, Bool, true, false, cond, not, List, [], ◌∷◌, ◌++◌, ℕ, zero, suc, ◌+◌, ◌*◌, ◌/◌, ◌%◌, ◌≤◌, ◌<◌, arith, eq-eqb, le-ltb, leb-false, ltb-false, eqb-true, leb, ltb, eqb, lit≤, lit<, length, take, drop, replicate, length-append, length-drop, take-append-drop, drop_at, take_all, take-add, length-take-le}
+use borrow.Author.Tests.{lt-leb, not-false}
 use Rattle.codec.specs.Bytes.{AllBytes, le16, le32, put, allZero}
 use Rattle.codec.specs.Outcome.{Outcome, given, refusal, and_then}
 use Rattle.codec.proofs.CursorLaws.{agree-number, put-take, le-lt, drop-bytes}

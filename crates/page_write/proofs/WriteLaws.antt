@@ -1,11 +1,6 @@
 -- Laws of what the page's writer leaves: lengths, and the entries one after the other.
-use mathlib.Core.Path.{◌≡◌, refl, sym, ap, ap₂, ◌∙◌}
-use mathlib.Core.List.{List, ◌++◌, append_assoc}
-use Prim.Native.Nat.{ℕ, zero, suc, ◌+◌, ◌*◌, ◌/◌, ◌≤◌, ◌<◌}
-use native.Mathlib.Nat.{zero-add}
-use native.Mathlib.Omega.{arith}
-use lib.ListN.{length, take, drop, length-append, length-take, length-drop, take-append-drop}
-use lib.Seq.{take_all, take-append-le, drop-append-le, length-take-le}
+use Rattle.std.proofs.Common.{◌≡◌, refl, sym, ap, ap₂, ◌∙◌, List, ◌++◌, append_assoc, ℕ, zero, suc, ◌+◌, ◌*◌, ◌/◌, ◌≤◌, ◌<◌, zero-add, arith, length, take, drop, length-append, length-take, length-drop, take-append-drop, take_all, length-take-le}
+use Rattle.std.proofs.Math.Seq.{take-append-le, drop-append-le}
 use Rattle.codec.specs.Bytes.{bytes16, put}
 use Rattle.codec.specs.Outcome.{given, refusal}
 use Rattle.codec.proofs.CursorLaws.{length-bytes, put-put, put-parts, put-take}

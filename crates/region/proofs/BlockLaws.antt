@@ -1,12 +1,5 @@
 -- Laws of block sizes: bounds, and what a log2 in range gives.
-use mathlib.Core.Path.{◌≡◌, refl, ◌∙◌}
-use mathlib.Core.Bool.{Bool, true, false, cond}
-use Prim.Native.Nat.{ℕ, ◌*◌, ◌%◌, ◌^◌, ◌≤◌, ◌<◌}
-use native.Mathlib.Nat.{one-mul}
-use native.Mathlib.Omega.{arith}
-use borrow.Author.Tests.{le-ltb, ltb-false}
-use lib.Dec.{ltb, lit<, lit≤}
-use lib.Pow.{pow_mono, shl_exact}
+use Rattle.std.proofs.Common.{◌≡◌, refl, ◌∙◌, Bool, true, false, cond, ℕ, ◌*◌, ◌%◌, ◌^◌, ◌≤◌, one-mul, arith, le-ltb, ltb-false, ltb, lit<, lit≤, pow_mono, shl_exact}
 use Rattle.region.specs.Block.{clamp, blockSize}
 
 pub clamp-range : (log2 : ℕ) → (12 ≤ clamp log2) × (clamp log2 ≤ 16)
@@ -37,6 +30,3 @@ block-high log2 = pow_mono {i = clamp log2} {j = 16} (clamp-range log2).1
 pub block-power : (log2 : ℕ) → 12 ≤ log2 → log2 ≤ 16 → blockSize log2 ≡ 2 ^ log2
 unfolding blockSize clamp
 block-power log2 from to = simp (le-ltb _ _ from, le-ltb _ _ to)
-
-pub block-positive : (log2 : ℕ) {block : ℕ} → block ≡ blockSize log2 → 0 < block
-block-positive log2 is = omega (arith, block-low log2)

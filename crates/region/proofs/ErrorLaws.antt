@@ -1,10 +1,5 @@
 -- The number of a refusal fixes its case: two refusals with the same number of document 01 are the same.
-use mathlib.Core.Path.{◌≡◌, refl, sym, ap, ◌∙◌}
-use mathlib.Core.Bool.{Bool, true, false, cond}
-use Prim.Native.Nat.{ℕ, ◌≤◌}
-use native.Mathlib.Omega.{arith}
-use borrow.Author.Tests.{ne_eqb, leb-false, ltb-true}
-use lib.Dec.{leb, ltb, eqb}
+use Rattle.std.proofs.Common.{◌≡◌, refl, sym, ap, ◌∙◌, Bool, true, false, cond, ℕ, ◌≤◌, arith, ne_eqb, leb-false, ltb-true, leb, ltb, eqb}
 use Rattle.region.specs.Error.{fieldNumber, errorNumber}
 use Rattle.region.specs.declared.meta.MetaError.{MetaError}
 

@@ -1,10 +1,5 @@
 -- Laws of kinds: what a number that is none gives, and the number of one that was read.
-use mathlib.Core.Path.{◌≡◌, refl, sym, ap, ◌∙◌}
-use mathlib.Core.Bool.{Bool, true, false, cond}
-use Prim.Native.Nat.{ℕ}
-use native.Mathlib.Omega.{arith}
-use borrow.Author.Tests.{eqb-true}
-use lib.Dec.{eqb}
+use Rattle.std.proofs.Common.{◌≡◌, refl, sym, ap, ◌∙◌, Bool, true, false, cond, ℕ, arith, eqb-true, eqb}
 use Rattle.codec.specs.Outcome.{Outcome, given, refusal}
 use Rattle.region.specs.Kind.{kindNumber, kind_of}
 use Rattle.region.specs.declared.meta.RegionKind.{RegionKind}

@@ -2,4 +2,3 @@ pub mod ReadLaws
 pub mod WriteLaws
 pub mod SlotLaws
 pub mod StatusLaws
-pub mod NumberLaws

@@ -1,11 +1,6 @@
 -- What a slot's answer depends on: the first 128 bytes, those of the header where it is longer, the length, and the payload. The bytes
 -- behind the payload do not count.
-use mathlib.Core.Path.{◌≡◌, refl, ap, ap₂, ◌∙◌}
-use mathlib.Core.List.{List, ◌++◌}
-use Prim.Native.Nat.{ℕ, ◌-◌, ◌≤◌}
-use native.Mathlib.Omega.{arith}
-use lib.Dec.{lit≤, lit<}
-use lib.ListN.{length, take, drop, replicate}
+use Rattle.std.proofs.Common.{◌≡◌, refl, ap, ap₂, ◌∙◌, List, ◌++◌, ℕ, ◌-◌, ◌≤◌, arith, lit≤, lit<, length, take, drop, replicate}
 use Rattle.codec.specs.Bytes.{le16, le32}
 use Rattle.codec.specs.Crc32c.{crc32c}
 use Rattle.codec.proofs.CursorLaws.{agree-byte, agree-number, agree-front, agree-run}

@@ -1,11 +1,5 @@
 -- The statuses that `validate` answers: every check that fails names one of its own, and 0, ReadError, is none of them.
-use mathlib.Core.Path.{◌≡◌, refl}
-use mathlib.Core.Bool.{Bool, true, false, cond, not}
-use mathlib.Core.List.{List}
-use Prim.Native.Nat.{ℕ, ◌+◌, ◌≤◌}
-use native.Mathlib.Omega.{arith}
-use lib.Dec.{leb, ltb, eqb, lit≤}
-use lib.ListN.{length, take, drop}
+use Rattle.std.proofs.Common.{◌≡◌, refl, Bool, true, false, cond, not, List, ℕ, ◌+◌, ◌≤◌, arith, leb, ltb, eqb, lit≤, length, take, drop}
 use Rattle.codec.specs.Bytes.{same, allZero}
 use Rattle.slot.specs.Status.{indexNumber, code, validInfo}
 use Rattle.slot.specs.Read.{magic, header, headerSum, lengthOk, integrity, numberOk, shape, place, and_then, check, parsed, parseHeader, payloadOk, status as statusBy, validate}

@@ -1,7 +1,6 @@
 -- The lengths of a written header and of its parts.
-use mathlib.Core.Path.{◌≡◌}
-use Prim.Native.Nat.{ℕ}
-use lib.ListN.{length, length-append, length-replicate}
+use Rattle.std.proofs.Common.{◌≡◌, ℕ, length, length-append}
+use Rattle.std.proofs.Math.ListN.{length-replicate}
 use Rattle.codec.proofs.CursorLaws.{length-bytes}
 use Rattle.slot.specs.Write.{frontBytes, identityBytes, historyBytes, headerBytes}
 use Rattle.slot.specs.declared.slot.SlotFields.{SlotFields}

@@ -1,12 +1,6 @@
 -- The definitions of the volume record's decoder case by case, as its functions cite them, and what stands where it gives a value.
-use mathlib.Core.Path.{◌≡◌, refl, sym, ap, ◌∙◌, subst}
-use mathlib.Core.Bool.{not}
-use mathlib.Core.List.{List}
-use Prim.Native.Nat.{ℕ, ◌*◌, ◌^◌, ◌≤◌, ◌<◌}
-use native.Mathlib.Omega.{arith}
-use borrow.Author.Tests.{eq-eqb, eqb-true, eqb-false, ltb-false, leb-false, not-false}
-use lib.Dec.{leb, ltb, eqb}
-use lib.ListN.{length, take}
+use Rattle.std.proofs.Common.{◌≡◌, refl, sym, ap, ◌∙◌, subst, not, List, ℕ, ◌*◌, ◌^◌, ◌≤◌, ◌<◌, arith, eq-eqb, eqb-true, ltb-false, leb-false, leb, ltb, eqb, length, take}
+use borrow.Author.Tests.{eqb-false, not-false}
 use Rattle.codec.specs.Bytes.{le32, le64}
 use Rattle.codec.specs.Outcome.{Outcome, given, refusal, and_then}
 use Rattle.region.specs.Block.{entriesPerPage}

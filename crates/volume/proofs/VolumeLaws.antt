@@ -1,14 +1,7 @@
 -- Round trips of the volume record: what is decoded is encoded to the same bytes, what is acceptable is decoded from its bytes, and nothing
 -- else is decoded.
-use mathlib.Core.Path.{◌≡◌, refl, sym, ap, ◌∙◌, subst}
-use mathlib.Core.Bool.{Bool, true, false}
-use mathlib.Core.List.{List, [], ◌∷◌, append-nil}
-use Prim.Native.Nat.{ℕ, ◌≤◌}
-use native.Mathlib.Omega.{arith}
-use borrow.Author.Tests.{eq-eqb, ne_eqb, le-ltb, lt-leb, eqb-true, eqb-false}
-use lib.Dec.{lit≤, lit<, eqb}
-use lib.ListN.{length, get_or, take, length-append}
-use lib.Seq.{take_at, take_all, take-take}
+use Rattle.std.proofs.Common.{◌≡◌, refl, sym, ap, ◌∙◌, subst, Bool, true, false, List, [], ◌∷◌, append-nil, ℕ, ◌≤◌, arith, eq-eqb, ne_eqb, le-ltb, eqb-true, lit≤, lit<, eqb, length, get_or, take, length-append, take_at, take_all, take-take}
+use borrow.Author.Tests.{lt-leb, eqb-false}
 use Rattle.codec.specs.Bytes.{AllBytes, le, flag}
 use Rattle.codec.specs.Outcome.{given}
 use Rattle.codec.proofs.CursorLaws.{take-bytes}

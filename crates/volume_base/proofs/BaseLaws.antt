@@ -1,12 +1,7 @@
 -- Round trips of the base: what is decoded is encoded to the same bytes, what is acceptable is decoded from its bytes, and nothing else is
 -- decoded.
-use mathlib.Core.Path.{◌≡◌, refl, sym, ap, ◌∙◌, subst}
-use mathlib.Core.List.{List, [], ◌∷◌, ◌++◌, append-nil}
-use Prim.Native.Nat.{ℕ, ◌≤◌}
-use native.Mathlib.Omega.{arith}
-use borrow.Author.Tests.{eq-eqb, le-ltb, le-leb}
-use lib.Dec.{lit<}
-use lib.ListN.{length, take, length-append, length-replicate}
+use Rattle.std.proofs.Common.{◌≡◌, refl, sym, ap, ◌∙◌, subst, List, [], ◌∷◌, ◌++◌, append-nil, ℕ, ◌≤◌, arith, eq-eqb, le-ltb, le-leb, lit<, length, take, length-append}
+use Rattle.std.proofs.Math.ListN.{length-replicate}
 use Rattle.codec.specs.Bytes.{AllBytes, le}
 use Rattle.codec.specs.Outcome.{given}
 use Rattle.codec.proofs.CursorLaws.{length-bytes, bytes-zero, le-lt}

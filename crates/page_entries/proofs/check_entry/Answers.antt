@@ -1,7 +1,7 @@
 -- `check_entry` meets its contract: the tests of the definition in their order, on the numbers that were read. The entry's bytes are
 -- there, so no read is refused.
-use Rattle.std.proofs.Common.{◌≡◌, refl, arith, eq-eqb, ne_eqb}
-use borrow.Author.Tests.{le-leb, lt-leb}
+use Rattle.std.proofs.Common.{◌≡◌, refl, arith, eq-eqb, ne_eqb, le-leb}
+use borrow.Author.Tests.{lt-leb}
 use Rattle.codec.specs.Bytes.{le, le16, le32}
 use Rattle.codec.proofs.CursorLaws.{answer-done, answer-refused, part-rest}
 use Rattle.page_entries.specs.Entries.{entryCheck}

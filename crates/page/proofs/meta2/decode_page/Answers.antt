@@ -1,6 +1,5 @@
 -- `decode_page` meets its contract: the tests of the definition in their order, on the header that was read.
-use Rattle.std.proofs.Common.{◌≡◌, sym, ap, ◌∙◌, true, false, List, ℕ, ◌+◌, ◌-◌, ◌*◌, ◌/◌, ◌≤◌, arith, ltb, length, take, drop, length-drop}
-use borrow.Author.Tests.{lt-ltb, le-ltb}
+use Rattle.std.proofs.Common.{◌≡◌, sym, ap, ◌∙◌, true, false, List, ℕ, ◌+◌, ◌-◌, ◌*◌, ◌/◌, ◌≤◌, arith, ltb, length, take, drop, length-drop, lt-ltb, le-ltb}
 use Rattle.codec.proofs.CursorLaws.{part-rest}
 use Rattle.codec.specs.Bytes.{le16, le32, allZero}
 use Rattle.codec.specs.Outcome.{Outcome}

@@ -1,7 +1,6 @@
 -- `Page::entries` meets its contract: the part that is lent lies where the definition says, whichever of the two it is.
-use Rattle.std.proofs.Common.{◌≡◌, refl, sym, List, [], ℕ, ◌+◌, ◌<◌, ◌≤◌, length, Bor, arith}
+use Rattle.std.proofs.Common.{◌≡◌, refl, sym, List, [], ℕ, ◌+◌, ◌<◌, ◌≤◌, length, Bor, arith, lt-ltb, le-ltb}
 use Rattle.std.proofs.Math.Nat.{zero-add, add-sub_cancel_left}
-use borrow.Author.Tests.{lt-ltb, le-ltb}
 use Rattle.codec.specs.Place.{Part}
 use Rattle.page.specs.Read.{entriesStart, entriesLength}
 use Rattle.page.specs.declared.meta2.Page.{Page}

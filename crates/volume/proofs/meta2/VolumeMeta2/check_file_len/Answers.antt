@@ -1,6 +1,5 @@
 -- `check_file_len` meets its contract: a refusal of the table's end is handed on, and an end is held to the file's length.
-use Rattle.std.proofs.Common.{sym}
-use borrow.Author.Tests.{lt-ltb, le-ltb}
+use Rattle.std.proofs.Common.{sym, lt-ltb, le-ltb}
 use Rattle.volume.specs.Volume.{fileCheck}
 use Rattle.volume.proofs.meta2.VolumeMeta2.check_file_len.Goals as goal
 

@@ -1,7 +1,6 @@
 -- `VolumeMeta2::decode` meets its contract: 64 bytes have every field, so no read is refused; features and flags are tested first, then
 -- the base decides and what stands behind it.
-use Rattle.std.proofs.Common.{◌≡◌, refl, sym, ap, ◌∙◌, ◌≤◌, length, arith, length-take-le}
-use borrow.Author.Tests.{eq-eqb, ne_eqb}
+use Rattle.std.proofs.Common.{◌≡◌, refl, sym, ap, ◌∙◌, ◌≤◌, length, arith, length-take-le, eq-eqb, ne_eqb}
 use Rattle.codec.specs.Bytes.{le, le32, le64}
 use Rattle.codec.proofs.CursorLaws.{answer-done, answer-refused}
 use Rattle.volume_base.proofs.DecodeLaws.{base-decoded}
