@@ -7,25 +7,15 @@ use Rattle.entry.proofs.EntryLaws.{entry-cut, entry-there}
 use Rattle.entry.proofs.meta2.RawEntry.read.Goals as goal
 
 pub returns-in_default : goal.returns-in_default
-returns-in_default c =
-    let cut =
-    entry-cut c.args.bytes.now 40 (held_none 40 _ _ (sym c.in_default.ensures)) (lit≤ tt) (c.truncated.ensures.answer_value, c.truncated.ensures.result_value) in
-    record { answer_value = cut.0; result_value = cut.1 }
+returns-in_default c = entry-cut _ 40 (held_none 40 _ _ (sym c.in_default.ensures)) (lit≤ tt)
 
 pub returns-in_default-array : goal.returns-in_default-array
 returns-in_default-array c =
     let s : List ℕ = c.args.bytes.now in
-    let short = answer-refused 6 (λ (p : ℕ). take 24 (drop p s)) s 8 24 c.in_default-array.ensures refl refl in
-    let refused = c.truncated-in_default-array.ensures in
-    let cut = entry-cut s 32 short (lit≤ tt) (refused.answer_value, refused.result_value) in
-    record { answer_value = cut.0; result_value = cut.1 }
+    entry-cut s 32 (answer-refused 6 (λ (p : ℕ). take 24 (drop p s)) s 8 24 c.in_default-array.ensures refl refl) (lit≤ tt)
 
 pub returns-in_default-read_places : goal.returns-in_default-read_places
-returns-in_default-read_places c =
-    let refused = c.truncated-in_default-read_places.ensures in
-    let cut =
-    entry-cut c.args.bytes.now 96 (held_none 96 _ _ (sym c.in_default-read_places.ensures)) (lit≤ tt) (refused.answer_value, refused.result_value) in
-    record { answer_value = cut.0; result_value = cut.1 }
+returns-in_default-read_places c = entry-cut _ 96 (held_none 96 _ _ (sym c.in_default-read_places.ensures)) (lit≤ tt)
 
 pub returns : goal.returns
 returns c =
@@ -33,5 +23,4 @@ returns c =
     let front = held-is 40 _ _ (sym c.in-Fields.ensures) in
     let name = answer-done 6 (λ (p : ℕ). take 24 (drop p s)) s 8 24 c.in-Value.ensures refl refl in
     let places = held-is 96 _ _ (sym c.in-Fields-read_places.ensures) in
-    let there = entry-there s places.1 front.0 name.0 places.0 in
-    record { answer_value = there.0; result_value = there.1 }
+    entry-there s places.1 front.0 name.0 places.0
