@@ -20,7 +20,7 @@ use Rattle.candidate.specs.declared.pairs.PairPart.{PairPart}
 use Rattle.candidate.specs.declared.pairs.PairCase.{PairCase}
 use Rattle.candidate.specs.declared.pairs.MetaSeq.{MetaSeq}
 use Rattle.verdict.specs.declared.verdict.PairVerdict.{PairVerdict}
-use Rattle.judge_step.specs.Step.{partRead}
+use Rattle.judge.specs.Row.{partRead}
 use Rattle.judge.specs.Row.{rowRead, rowJudged, rowVerdicts}
 use Rattle.verdict.specs.declared.verdict.Judged.{Judged}
 use Rattle.cut.specs.Store.{Slot, Pair, status, filled, slotPart, pairPart, parts, slotRead, reads}

@@ -132,10 +132,10 @@ pair-frame p ps a-zeros b-zeros =
 
 -- Bytes lent in some block, and the part of n of them from k on.
 abbrev lent : ℕ → List ℕ → Bor (List ℕ)
-lent block bytes = record { ref_ptr = (block, 0); ghost_name = block; now = bytes }
+lent block bytes = record { ref_ptr = (block, 0); now = bytes }
 
 abbrev lentPart : ℕ → ℕ → ℕ → List ℕ → Bor (List ℕ)
-lentPart block k n bytes = record { ref_ptr = (block, k + 0); ghost_name = block; now = take n (drop k bytes) }
+lentPart block k n bytes = record { ref_ptr = (block, k + 0); now = take n (drop k bytes) }
 
 lent-part : (block k n : ℕ) (bytes : List ℕ) → Part (lent block bytes) k n (lentPart block k n bytes)
 lent-part block k n bytes = record { block = refl; offset = refl; bytes = refl }

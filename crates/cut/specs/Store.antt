@@ -16,8 +16,8 @@ use Rattle.frame.specs.declared.frame.SlotPart.{SlotPart}
 use Rattle.verdict.specs.Verdict.{byIndex}
 use Rattle.candidate.specs.declared.pairs.PairPart.{PairPart}
 use Rattle.judge_frames.specs.Frames.{framesOf}
-use Rattle.judge_step.specs.declared.SlotRead.{SlotRead}
-use Rattle.judge_step.specs.declared.PairRead.{PairRead}
+use Rattle.judge.specs.declared.SlotRead.{SlotRead}
+use Rattle.judge.specs.declared.PairRead.{PairRead}
 use Rattle.volume.specs.Volume.{decodeVolume}
 use Rattle.volume.specs.declared.meta2.VolumeMeta2.{VolumeMeta2}
 use Rattle.page.specs.Read.{decodePage}

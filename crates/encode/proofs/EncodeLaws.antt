@@ -1,13 +1,6 @@
 -- Laws of a written slot: what is read back from it.
-use mathlib.Core.Path.{◌≡◌, refl, sym, ap, ap₂, ◌∙◌}
-use mathlib.Core.Bool.{Bool, true, false, cond}
-use mathlib.Core.List.{List, [], ◌∷◌, ◌++◌, append_assoc}
-use Prim.Native.Nat.{ℕ, ◌+◌, ◌-◌, ◌^◌, ◌≤◌, ◌<◌}
-use native.Mathlib.Omega.{arith}
-use borrow.Author.Tests.{le-ltb, le-leb, eq-eqb, ne_eqb}
-use lib.Dec.{lit≤, lit<, eqb}
-use lib.ListN.{length, take, replicate, length-append, length-replicate}
-use lib.Seq.{take_at, drop_at}
+use Rattle.std.proofs.Common.{◌≡◌, refl, sym, ap, ap₂, ◌∙◌, subst, Bool, true, false, cond, List, [], ◌∷◌, ◌++◌, append_assoc, ℕ, ◌+◌, ◌-◌, ◌^◌, ◌≤◌, ◌<◌, arith, le-ltb, le-leb, eq-eqb, ne_eqb, lit≤, lit<, eqb, length, take, replicate, length-append, take_at, drop_at}
+use Rattle.std.proofs.Math.ListN.{length-replicate}
 use Rattle.codec.specs.Bytes.{bytes32, put, allZero}
 use Rattle.codec.specs.Crc32c.{crc32c}
 use Rattle.codec.proofs.CursorLaws.{length-bytes, bytes-zero, put-place}
@@ -156,7 +149,7 @@ module _ {f : SlotFields} (fits : Fits f) (crc n payloadCrc : ℕ) (rest : List 
 
   pub field_at : (k : ℕ) → At (ReadAt s) 0 (headerRow crc f n payloadCrc) k
   field_at =
-      rw (header_row crc f n payloadCrc)
+      subst (λ (bytes : List ℕ). (k : ℕ) → At (ReadAt (bytes ++ rest)) 0 (headerRow crc f n payloadCrc) k) (sym (header_row crc f n payloadCrc))
       (row_read (headerRow crc f n payloadCrc) 0
       (refl
       & crc-fits

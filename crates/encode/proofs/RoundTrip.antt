@@ -1,14 +1,7 @@
 -- What `encode` wrote is Valid with its fields and its payload, whatever was in the buffer before: an `encode` that refuses nothing has
 -- passed every test that the reader asks for.
-use mathlib.Core.Path.{◌≡◌, refl, sym, ap, ◌∙◌}
-use mathlib.Core.Bool.{Bool, true, false, cond, not}
-use mathlib.Core.List.{List}
-use Prim.Native.Nat.{ℕ, ◌+◌, ◌-◌, ◌^◌, ◌≤◌, ◌<◌}
-use native.Mathlib.Omega.{arith}
-use borrow.Author.Tests.{eq-eqb, ltb-false, eqb-true, eqb-false, not-false}
-use lib.Dec.{ltb, eqb}
-use lib.ListN.{length}
-use lib.Pow.{pow_mono}
+use Rattle.std.proofs.Common.{◌≡◌, refl, sym, ap, ◌∙◌, Bool, true, false, cond, not, List, ℕ, ◌+◌, ◌-◌, ◌^◌, ◌≤◌, ◌<◌, arith, eq-eqb, ltb-false, eqb-true, ltb, eqb, length, pow_mono}
+use borrow.Author.Tests.{eqb-false, not-false}
 use Rattle.slot.specs.Read.{numberOk, payload as payloadOf, validate}
 use Rattle.slot.specs.Write.{slotBytes, encodeRefusal, encodedBytes}
 use Rattle.slot.specs.declared.slot.SlotFields.{SlotFields}

@@ -1,5 +1,6 @@
 // Layer 2: the slot as it is written. Its header and its body are lent on as parts of the one slot buffer.
 #![tactic(auto)]
+
 ghost use Rattle.std.specs.Prelude.{◌≡◌, ◌+◌, ◌-◌, ◌≤◌, ◌<◌, ◌^◌, ◌++◌, length, replicate};
 ghost use Rattle.codec.specs.Crc32c.{crc32c};
 ghost use Rattle.codec.specs.Cursor.{write, writtenAnswer};
@@ -28,6 +29,7 @@ pub enum Encoded {
 }
 
 // Encodes a complete slot into `out`, which must be exactly the slot size. A refusal keeps `out`.
+#[tactic(auto, using(slot::proofs::ReadLaws::tests), unfolding(crate::specs::Encoded::formatOk, slot::specs::Write::slotBytes, slot::specs::Write::encodeRefusal, slot::specs::Write::encode, slot::specs::Write::encodedBytes))]
 pub fn encode(out: &mut [u8], f: SlotFields, payload: &[u8]) -> Encoded
     ensures result_value { encodedOutcome result ≡ encode f payload.now out.old }
     ensures out_after { out.new ≡ encodedBytes f payload.now out.old }
@@ -55,6 +57,7 @@ pub fn encode(out: &mut [u8], f: SlotFields, payload: &[u8]) -> Encoded
 }
 
 // Format 2, or format 1 with no number.
+#[tactic(auto, unfolding(crate::specs::Encoded::formatOk))]
 fn format_ok(format_major: u16, meta_seq: u64) -> bool
     ensures { result ≡ formatOk format_major meta_seq }
 {

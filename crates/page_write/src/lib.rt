@@ -1,5 +1,6 @@
 // Layer 3: table pages as they are written. The header's place and each entry's are lent on as parts of the one buffer.
 #![tactic(auto)]
+
 ghost use Rattle.std.specs.Prelude.{◌≡◌, ◌*◌, ◌/◌, length};
 ghost use Rattle.codec.specs.Cursor.{write, writtenAnswer};
 ghost use Rattle.region.specs.Error.{encodedOutcome};

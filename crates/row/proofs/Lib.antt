@@ -1,2 +1,1 @@
-pub mod ArrayLaws
 pub mod RecordLaws

@@ -4,7 +4,7 @@ use Rattle.std.specs.Prelude.{Bool, cond, List, ◌++◌, ℕ, ◌*◌, ◌%◌,
 use Rattle.verdict.specs.declared.verdict.PairVerdict.{PairVerdict}
 use Rattle.verdict.specs.declared.verdict.Standing.{Standing}
 use Rattle.verdict.specs.Verdict.{noWinner, verdictBytes}
-use Rattle.judge_step.specs.declared.PairRead.{PairRead}
+use Rattle.judge.specs.declared.PairRead.{PairRead}
 use Rattle.verdict.specs.declared.verdict.Judged.{Judged}
 use Rattle.judge_frames.specs.Frames.{frameWidth, pairs, row}
 use Rattle.judge.specs.Row.{rowJudged, rowVerdicts}

@@ -6,8 +6,8 @@ use Rattle.slot.specs.declared.slot.SlotInfo.{SlotInfo}
 use Rattle.slot.specs.declared.slot.SlotStatus.{SlotStatus}
 use Rattle.frame.specs.declared.frame.SlotPart.{SlotPart}
 use Rattle.candidate.specs.declared.pairs.PairPart.{PairPart}
-use Rattle.judge_step.specs.declared.SlotRead.{SlotRead}
-use Rattle.judge_step.specs.declared.PairRead.{PairRead}
+use Rattle.judge.specs.declared.SlotRead.{SlotRead}
+use Rattle.judge.specs.declared.PairRead.{PairRead}
 
 -- What the judge does not look at is 0.
 abbrev pub infoOf : SlotPart → SlotInfo

@@ -3,6 +3,7 @@
 //
 // A row has at most five pairs. The local arrays of records are lent to the judge in `judge_first`, all else is by value.
 #![tactic(auto)]
+
 ghost use Rattle.std.specs.Prelude.{◌≡◌, ◌∷◌, [], ◌*◌, ◌≤◌, length, take};
 ghost use Rattle.frame.specs.Frame.{part_width, partFrom};
 ghost use Rattle.verdict.specs.Verdict.{verdictBytes};
@@ -12,8 +13,8 @@ ghost use Rattle.row.specs.Judged.{fresh, judgedFirst, noRow, rowAnswer};
 
 use cases::number::{u8_at, u32_at, u64_at};
 use frame::frame::SlotPart;
+use judge::{PairRead, SlotRead};
 use judge_frames::{slot_verdict_number, standing_number, winner_number};
-use judge_step::{PairRead, SlotRead};
 use slot::slot::{HeaderFacts, NumberedHeader, SlotInfo, SlotStatus};
 use verdict::verdict::{Judged, PairVerdict, SlotVerdict, Standing, WinnerSlot};
 
@@ -72,6 +73,7 @@ fn info_of(p: SlotPart) -> SlotInfo
     }
 }
 
+#[tactic(auto, unfolding(crate::specs::Records::statusOf))]
 fn status_of(p: SlotPart) -> SlotStatus
     ensures { result ≡ statusOf p }
 {
@@ -93,6 +95,7 @@ fn status_of(p: SlotPart) -> SlotStatus
     }
 }
 
+#[tactic(auto, unfolding(crate::specs::Records::facts_of))]
 fn facts_of(p: SlotPart) -> HeaderFacts
     ensures { result ≡ facts_of p }
 {
@@ -168,6 +171,7 @@ fn fresh() -> [PairVerdict; 5]
 }
 
 // Judges the first `n` pairs into the first `room` verdicts.
+#[tactic(auto, unfolding(crate::specs::Judged::judgedFirst))]
 fn judge_first(
     pairs: [PairRead; 5],
     n: usize,
@@ -217,6 +221,7 @@ fn bytes_of(vs: [PairVerdict; 5]) -> [u8; 20]
 }
 
 // 10 for bytes that are no whole frames, for more than five pairs, and for room for more than five verdicts. Else 0.
+#[tactic(auto, unfolding(crate::specs::Judged::noRow))]
 fn no_row(len: usize, room: usize) -> u8
     ensures { result ≡ noRow len room }
 {

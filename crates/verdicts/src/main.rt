@@ -1,22 +1,37 @@
 // Judges a store by the frames of its pairs (document 01, "Store verdict"). The text is verdict_text's, this reads and writes it.
 #![tactic(auto)]
+
+ghost use Rattle.std.specs.Prelude.{◌≤◌, IfOk, length};
+
 use cases::line::part;
-use libc::{STDIN_FILENO, STDOUT_FILENO};
+use std::io::{self, Read};
 use verdict_text::Responded;
 
-fn main() {
-    let mut input = [0u8; 65536];
-    let n = io::read_full(STDIN_FILENO, &mut input);
+fn main(rt: HostRuntime) -> io::Result<()> {
+    let mut text = [0u8; 65536];
+    let mut input = rt.stdin();
+    let count = fill(&mut input, &mut text)?;
     // A buffer that is not full holds all of the input.
     let mut next = [0u8; 1];
-    let more = n == 65536 && 0 < io::read_full(STDIN_FILENO, &mut next);
+    let more = count == text.len() && fill(&mut input, &mut next)? == 1;
     let mut output = [0u8; 5633];
-    match verdict_text::respond(part(&input, 0, n), more, &mut output) {
-        Responded::Bytes(count) => print(part(&output, 0, count)),
-        Responded::NoRoom => {}
+    match verdict_text::respond(&text[..count], more, &mut output) {
+        Responded::Bytes(length) => rt.write_all(part(&output, 0, length)),
+        Responded::NoRoom => Ok(()),
     }
 }
 
-fn print(text: &[u8]) {
-    io::write_all(STDOUT_FILENO, text);
+// Reads until `buffer` is full or the input ends, and tells how many bytes there are at its start.
+fn fill(input: &mut impl Read, buffer: &mut [u8]) -> io::Result<usize>
+    ensures { IfOk result (λ n. n ≤ length buffer.new) }
+{
+    let mut count = 0;
+    while count < buffer.len() {
+        let read = input.read(&mut buffer[count..])?;
+        if read == 0 {
+            break;
+        }
+        count += read;
+    }
+    Ok(count)
 }

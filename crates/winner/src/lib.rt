@@ -1,5 +1,6 @@
 // Layer 2: the winner's payload, as a part of slot A's or slot B's bytes, and the report beside it as numbers.
 #![tactic(auto)]
+
 ghost use Rattle.std.specs.Prelude.{◌≡◌};
 ghost use Rattle.slot.specs.Status.{statusValues};
 ghost use Rattle.pair.specs.Pair.{winnerInfo};
@@ -43,6 +44,7 @@ pub fn winner_payload<'a>(
 }
 
 // Validates both slots of a pair, and decides.
+#[tactic(auto, unfolding(crate::specs::Winner::readPair))]
 pub fn read_pair(a: &[u8], expect_a: Expect, b: &[u8], expect_b: Expect) -> PairReport
     ensures value { result ≡ readPair a.now expect_a b.now expect_b }
     ensures result_value { reportNumbers result ≡ reportNumbers (readPair a.now expect_a b.now expect_b) }
@@ -53,6 +55,7 @@ pub fn read_pair(a: &[u8], expect_a: Expect, b: &[u8], expect_b: Expect) -> Pair
 }
 
 // A pair's report in six numbers.
+#[tactic(auto, unfolding(pair::specs::Numbers::reportNumbers))]
 fn report_numbers(report: PairReport) -> [u8; 6]
     ensures { result ≡ reportNumbers report }
 {
