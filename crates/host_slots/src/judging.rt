@@ -7,6 +7,7 @@ ghost use Rattle.verdict.specs.Verdict.{healSlot, healPair};
 use verdict::verdict::{Heal, Judgement};
 
 // The slot to heal and its pair, writable, clean, refused.
+#[tactic(auto, unfolding(crate::specs::Judging::judgementValues))]
 pub fn judgement_values(j: Judgement) -> [u64; 5]
     ensures { result ≡ judgementValues j }
 {

@@ -8,6 +8,7 @@ use pair::pair::{NextWrite, PairReport};
 use slot::slot::{SlotInfo, SlotStatus};
 
 // The status with a number of document 01, and what `decide` looks at of a valid slot.
+#[tactic(auto, using(slot::proofs::ReadLaws::tests), unfolding(crate::specs::Pairs::statusOf))]
 pub fn status_of(
     code: u32,
     generation: u64,
@@ -44,6 +45,7 @@ pub fn status_of(
 }
 
 // The winner's standing and slot, gap, chain break, and the slot of the next write.
+#[tactic(auto, unfolding(crate::specs::Pairs::reportBytes))]
 pub fn report_bytes(report: PairReport) -> [u8; 5]
     ensures { result ≡ reportBytes report }
 {

@@ -11,24 +11,10 @@ use slot::slot::{Expect, HeaderFacts, SlotIndex};
 pub fn volume_id(volume0: u64, volume1: u64) -> [u8; 16]
     ensures { result ≡ volumeId volume0 volume1 }
 {
-    [
-        (volume0 % 0x100) as u8,
-        (volume0 / 0x100 % 0x100) as u8,
-        (volume0 / 0x10000 % 0x100) as u8,
-        (volume0 / 0x1000000 % 0x100) as u8,
-        (volume0 / 0x100000000 % 0x100) as u8,
-        (volume0 / 0x10000000000 % 0x100) as u8,
-        (volume0 / 0x1000000000000 % 0x100) as u8,
-        (volume0 / 0x100000000000000 % 0x100) as u8,
-        (volume1 % 0x100) as u8,
-        (volume1 / 0x100 % 0x100) as u8,
-        (volume1 / 0x10000 % 0x100) as u8,
-        (volume1 / 0x1000000 % 0x100) as u8,
-        (volume1 / 0x100000000 % 0x100) as u8,
-        (volume1 / 0x10000000000 % 0x100) as u8,
-        (volume1 / 0x1000000000000 % 0x100) as u8,
-        (volume1 / 0x100000000000000 % 0x100) as u8,
-    ]
+    let mut id = [0; 16];
+    id[..8].copy_from_slice(&volume0.to_le_bytes());
+    id[8..].copy_from_slice(&volume1.to_le_bytes());
+    id
 }
 
 // Any number but 0 is B.

@@ -31,6 +31,7 @@ pub fn winner_start(info: WinnerInfo, a_len: usize, b_len: usize) -> usize
 }
 
 // 0 in a slot that is too short for it.
+#[tactic(auto, unfolding(slot::specs::Read::payloadStart))]
 pub fn payload_start(info: SlotInfo, len: usize) -> usize
     ensures { result ≡ payloadStart info len }
 {
