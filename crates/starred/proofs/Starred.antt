@@ -23,7 +23,7 @@ use Rattle.verdict.specs.declared.verdict.SlotVerdict.{SlotVerdict}
 use Rattle.verdict.specs.declared.verdict.PairVerdict.{PairVerdict}
 use Rattle.verdict.specs.declared.verdict.Heal.{Heal}
 use Rattle.region.specs.Block.{clamp, blockSize, entriesPerPage}
-use Rattle.name.specs.Name.{nameOk, nameCheck}
+use Rattle.name.specs.Name.{nameOk, named}
 use Rattle.name.specs.Utf8.{utf8, utf8Octets}
 use Rattle.volume.specs.Volume.{table_end, fileCheck}
 use Rattle.volume.specs.declared.meta2.VolumeMeta2.{VolumeMeta2}
@@ -126,14 +126,14 @@ pub record Starred : Type 0 where
   -- 24 zero bytes as page 0: accepted.
   pub empty-page : decodePage (replicate 24 0) 0 41 ≡ given (page (record { page_index = 0; next_seq = 0; count = 0 }))
   -- Name of 24 letters: accepted; C0 80 (hexadecimal): 35.
-  pub letters-24 : nameCheck (replicate 24 0x61) ≡ given tt
-  pub c0-80 : nameCheck (0xC0 ∷ 0x80 ∷ []) ≡ refusal 35
+  pub letters-24 : named (replicate 24 0x61) ≡ given (record { bytes = replicate 24 0x61; len = 24 })
+  pub c0-80 : named (0xC0 ∷ 0x80 ∷ []) ≡ refusal 35
   -- Both log2 12, one page: end 16,384; file of 16,383: 26.
   pub table-end : table_end volume ≡ given 16384
   pub file-16383 : fileCheck volume 16383 ≡ refusal 26
 
 pub starred : Starred
-unfolding crc32c finalRemainder remainder digest reversed entriesPerPage blockSize clamp encodeRefusal oppositeSlot blank badPayload numbered unsupported pairCase firstVerdicts firstTally cleanMark storeRules demoted pairHeal rowRules verdicts judgeRow decodePage le nameCheck nameOk utf8 utf8Octets table_end fileCheck
+unfolding crc32c finalRemainder remainder digest reversed entriesPerPage blockSize clamp encodeRefusal oppositeSlot blank badPayload numbered unsupported pairCase firstVerdicts firstTally cleanMark storeRules demoted pairHeal rowRules verdicts judgeRow decodePage le named nameOk utf8 utf8Octets table_end fileCheck
 starred =
     record {
       no_bytes = refl;
