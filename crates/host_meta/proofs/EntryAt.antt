@@ -1,4 +1,4 @@
--- An entry that is stored in 96 bytes.
+-- An entry as it is stored in 96 bytes.
 use Rattle.std.proofs.Common.{◌≡◌, ◌∙◌, List, ℕ, arith, length}
 use Rattle.codec.specs.Bytes.{putWhole}
 use Rattle.codec.proofs.CursorLaws.{put_whole, put_all}

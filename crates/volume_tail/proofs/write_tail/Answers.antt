@@ -2,7 +2,7 @@
 -- of the buffer. A write is refused only where its bytes do not fit, and all 16 do.
 use Rattle.std.proofs.Common.{refl, sym, lit≤, arith}
 use Rattle.codec.proofs.CursorLaws.{put-none, step_past}
-use Rattle.codec.proofs.Steps.{Writes, over-from, writes, never, over-answer, over-placed}
+use Rattle.codec.proofs.Steps.{over-from, writes, never, over-answer, over-placed}
 use Rattle.volume_tail.specs.Tail.{tail_bytes}
 use Rattle.volume_tail.proofs.TailLaws.{length-tail}
 use Rattle.volume_tail.proofs.write_tail.Goals as goal

@@ -1,5 +1,5 @@
 -- `check_base` meets its contract: the tests of the definition in their order. The block size of a log2 in range is a power of two.
-use Rattle.std.proofs.Common.{◌≡◌, ◌∙◌, ℕ, ◌^◌, arith, rules}
+use Rattle.std.proofs.Common.{◌≡◌, ◌∙◌, ◌^◌, arith}
 use Rattle.region.proofs.BlockLaws.{block-low, block-power}
 use Rattle.region.proofs.OutcomeLaws.{tests}
 use Rattle.volume_base.specs.Base.{baseCheck}

@@ -1,7 +1,7 @@
 -- `write_base` meets its contract: nine writes, each where the one before ended, put the fields' bytes one after the other over the whole
 -- of the base. A write is refused only where its bytes do not fit, and all 48 do.
 use Rattle.std.proofs.Common.{refl, lit≤}
-use Rattle.codec.proofs.Steps.{Writes, over-all, writes, writes-run, never, over-answer, over-whole}
+use Rattle.codec.proofs.Steps.{over-all, writes, writes-run, never, over-answer, over-whole}
 use Rattle.volume_base.specs.Base.{baseBytes}
 use Rattle.volume_base.proofs.meta.write_base.Goals as goal
 
