@@ -1,19 +1,17 @@
--- Laws of table entries: an entry that is written, one that is read, and that each gives back the other.
-use Rattle.std.proofs.Common.{subst, ◌≡◌, refl, sym, ap, ◌∙◌, List, [], ◌∷◌, ◌++◌, ℕ, ◌^◌, ◌≤◌, ◌<◌, arith, lit<, length, take, drop, length-append}
+-- Laws of table entries: an entry that is written, its name, and that what is written is read back and what is read is written back.
+use Rattle.std.proofs.Common.{subst, ◌≡◌, refl, sym, ap, ◌∙◌, List, [], ◌∷◌, ◌++◌, ℕ, ◌^◌, ◌≤◌, ◌<◌, arith, lit<, length, length-append}
 use Rattle.codec.specs.Outcome.{given, refusal}
 use Rattle.codec.proofs.FieldLaws.{Field, byte, number, run, row, row-append, ◌&◌, nil, At, ReadAt, row_read}
-use Rattle.region.proofs.FitLaws.{held_cut, held-there}
+use Rattle.region.proofs.FitLaws.{held-there}
 use Rattle.name.specs.Name.{padded}
 use Rattle.name.proofs.NameLaws.{padded-bytes}
-use Rattle.entry.specs.Layout.{rawFront, rawPlaces, frontBytes, placesBytes, partsBytes}
-use Rattle.entry.specs.declared.layout.EntryFront.{EntryFront}
-use Rattle.entry.specs.declared.layout.EntryPlaces.{EntryPlaces}
+use Rattle.entry.specs.Layout.{frontBytes, placesBytes, partsBytes}
 use Rattle.entry.specs.declared.meta2.RawEntry.{RawEntry}
 use Rattle.entry.specs.declared.meta2.Entry2.{Entry2}
 use Rattle.entry.specs.declared.meta2.EntryLimits.{EntryLimits}
 use Rattle.entry.specs.declared.meta2.FoundName.{FoundName}
 use Rattle.entry.specs.declared.meta2.NameAndKind.{NameAndKind}
-use Rattle.entry.specs.Entry.{joined, frontOf, places_of, raw_entry, entryRead, entryBytes, foundName, nameAndKind, foundBoth, toRaw}
+use Rattle.entry.specs.Entry.{frontOf, places_of, raw_entry, entryRead, entryBytes, foundName, nameAndKind, foundBoth, toRaw}
 use Rattle.entry.specs.Check.{checkEntry}
 use Rattle.entry.proofs.LayoutLaws.{length-parts}
 use Rattle.entry.proofs.CheckLaws.{entry-passed}
@@ -23,22 +21,6 @@ use Rattle.entry.proofs.CheckLaws.{entry-passed}
 pub length-entry : (e : RawEntry) → length e.name ≡ 24 → length (entryBytes e) ≡ 96
 unfolding entryBytes
 length-entry e name = length-parts (frontOf e) e.name name (places_of e)
-
--- ---- an entry that is read
-
--- Bytes that end before an end within the entry.
-pub entry-cut : (s : List ℕ) (end : ℕ) → length s < end → end ≤ 96 → refusal 11 ≡ entryRead s
-unfolding entryRead
-entry-cut s end short within = sym (held_cut 96 s (raw_entry s) end short within)
-
-pub entry-there : (s : List ℕ) {front : EntryFront} {name : List ℕ} {places : EntryPlaces}
-    → 96 ≤ length s
-    → front ≡ rawFront s
-    → name ≡ take 24 (drop 8 s)
-    → places ≡ rawPlaces s
-    → given (joined front name places) ≡ entryRead s
-unfolding entryRead
-entry-there s long front-is name-is places_is = simp (held-there 96 s (raw_entry s) long, front-is, name-is, places_is)
 
 -- ---- an entry's name
 

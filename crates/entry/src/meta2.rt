@@ -139,6 +139,7 @@ pub struct EntryLimits {
 
 impl RawEntry {
     // The entry in the first 96 bytes.
+    #[tactic(auto, unfolding(crate::specs::Entry::entryRead, region::specs::Error::held, codec::specs::Cursor::step))]
     pub fn read(bytes: &[u8]) -> RawEntryRead
         ensures { rawOutcome result ≡ entryRead bytes.now }
     {
