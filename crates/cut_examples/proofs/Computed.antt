@@ -21,7 +21,7 @@ use Rattle.verdict.specs.declared.verdict.Heal.{Heal}
 use Rattle.candidate.specs.Pairs.{numbered, badPayload, badHeader, blank, oppositeSlot, unsupported, newer, pairCase}
 use Rattle.verdict.specs.Judge.{firstVerdicts, firstTally, cleanMark, storeRules, demoted, pairHeal, writable, rowRules, verdicts, judgeRow}
 use Rattle.judge_frames.specs.Frames.{pairFrom, partInRange, pairInRange, refusal, judged, judgedBytes, framesOf}
-use Rattle.judge_step.specs.declared.SlotRead.{SlotRead}
+use Rattle.judge.specs.declared.SlotRead.{SlotRead}
 use Rattle.verdict.specs.declared.verdict.Judged.{Judged}
 use Rattle.page_write.specs.Write.{headerBytes as pageHeaderBytes}
 use Rattle.volume_base.specs.Base.{baseBytes}

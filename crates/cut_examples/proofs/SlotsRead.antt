@@ -21,9 +21,9 @@ use Rattle.candidate.specs.declared.pairs.PairPart.{PairPart}
 use Rattle.verdict.specs.Verdict.{byIndex}
 use Rattle.verdict.specs.declared.verdict.Heal.{Heal}
 use Rattle.judge_frames.specs.Frames.{judged, judgedBytes, framesOf}
-use Rattle.judge_step.specs.Step.{partRead}
-use Rattle.judge_step.specs.declared.SlotRead.{SlotRead}
-use Rattle.judge_step.specs.declared.PairRead.{PairRead}
+use Rattle.judge.specs.Row.{partRead}
+use Rattle.judge.specs.declared.SlotRead.{SlotRead}
+use Rattle.judge.specs.declared.PairRead.{PairRead}
 use Rattle.verdict.specs.declared.verdict.Judged.{Judged}
 use Rattle.cut.specs.Store.{Decoder, Slot, Pair, accepts, filled, slotPart, pairPart, frames, slotRead}
 use Rattle.cut.specs.Cut.{Write, after, handed, PayloadIs}

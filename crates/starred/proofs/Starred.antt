@@ -1,136 +1,16 @@
--- Document 01's starred examples, "Slots and pages at their edges", in its order, as one fact computed from the definitions that the
--- contracts cite; and the capacities of a page.
-use mathlib.Core.Path.{◌≡◌, refl}
-use mathlib.Core.Bool.{true, false}
-use mathlib.Core.List.{List, [], ◌∷◌}
-use Prim.Native.Nat.{ℕ}
-use lib.ListN.{replicate}
+-- The examples, computed as one fact; and the capacities of a page.
+use Rattle.std.proofs.Common.{refl}
 use Rattle.codec.specs.Bytes.{le}
 use Rattle.codec.specs.Crc32c.{crc32c, finalRemainder, remainder, digest, reversed}
-use Rattle.codec.specs.Outcome.{given, refusal}
 use Rattle.slot.specs.Write.{encodeRefusal}
-use Rattle.slot.specs.declared.slot.SlotIndex.{SlotIndex}
-use Rattle.slot.specs.declared.slot.SlotFields.{SlotFields}
-use Rattle.frame.specs.declared.frame.SlotPart.{SlotPart}
 use Rattle.candidate.specs.Pairs.{numbered, badPayload, blank, oppositeSlot, unsupported, pairCase}
-use Rattle.candidate.specs.Numbers.{qualifies}
-use Rattle.verdict.specs.Verdict.{winnerBeside}
 use Rattle.verdict.specs.Judge.{firstVerdicts, firstTally, cleanMark, storeRules, demoted, pairHeal, rowRules, verdicts, judgeRow}
-use Rattle.candidate.specs.declared.pairs.PairPart.{PairPart}
-use Rattle.candidate.specs.declared.pairs.MetaSeq.{MetaSeq}
-use Rattle.candidate.specs.declared.pairs.Opposite.{Opposite}
-use Rattle.verdict.specs.declared.verdict.SlotVerdict.{SlotVerdict}
-use Rattle.verdict.specs.declared.verdict.PairVerdict.{PairVerdict}
-use Rattle.verdict.specs.declared.verdict.Heal.{Heal}
 use Rattle.region.specs.Block.{clamp, blockSize, entriesPerPage}
 use Rattle.name.specs.Name.{nameOk, named}
 use Rattle.name.specs.Utf8.{utf8, utf8Octets}
 use Rattle.volume.specs.Volume.{table_end, fileCheck}
-use Rattle.volume.specs.declared.meta2.VolumeMeta2.{VolumeMeta2}
-use Rattle.page.specs.Read.{decodePage, page}
-
--- ---- what the examples speak of
-
--- A slot of 2^log2 bytes to be written, in a format, with a generation and a number.
-abbrev fields : ℕ → ℕ → ℕ → ℕ → SlotFields
-fields log2 format generation number =
-    record {
-      volume_uuid = replicate 16 0;
-      object_id = 0;
-      generation = generation;
-      owner_generation = 0;
-      slot_offset = 0;
-      slot_index = SlotIndex.A;
-      log2_slot_size = log2;
-      prev_header_crc32c = 0;
-      format_major = format;
-      meta_seq = number;
-      compat_flags = 0;
-    }
-
-abbrev valid : ℕ → ℕ → SlotPart
-valid generation number =
-    record { code = 12; facts = 0; generation = generation; meta_seq = number; header_crc32c = 7; prev_header_crc32c = 0 }
-
-abbrev blankSlot : SlotPart
-blankSlot = record { code = 2; facts = 0; generation = 0; meta_seq = 0; header_crc32c = 0; prev_header_crc32c = 0 }
-
--- A write after a valid slot of generation 1, its payload torn.
-abbrev torn : ℕ → SlotPart
-torn number = record { code = 11; facts = 2; generation = 2; meta_seq = number; header_crc32c = 8; prev_header_crc32c = 7 }
-
-abbrev pair : SlotPart → SlotPart → PairPart
-pair a b = record { a = a; b = b }
-
--- A volume record with a number, and a page beside a torn write with another one.
-abbrev numberedRow : ℕ → ℕ → List PairPart
-numberedRow highest candidate = pair (valid 1 highest) blankSlot ∷ pair (valid 1 1) (torn candidate) ∷ []
-
--- What the judge answers over a row without a clean mark: the verdicts, and the slot to heal.
-abbrev judged : List PairPart → List PairVerdict × Heal
-judged row = (verdicts row false, (judgeRow row false).heal)
-
--- Both log2 12, one page.
-abbrev volume : VolumeMeta2
-volume =
-    record {
-      base =
-          record {
-            log2_block_size = 12;
-            log2_table_slot_size = 12;
-            device_index = 0;
-            owner_generation = 0;
-            table_offset = 8192;
-            created_unix_s = 0;
-            features = 0;
-          };
-      table_pages = 1;
-      entries_per_page = 41;
-      clean_close = false;
-      flags = 0;
-    }
-
--- ---- the examples
-
-pub record Starred : Type 0 where
-  -- No bytes: checksum 0.
-  pub no_bytes : crc32c [] ≡ 0
-  -- Page capacity at log2 11 is 41, at 17 is 681.
-  pub capacity-at-11 : entriesPerPage 11 ≡ 41
-  pub capacity-at-17 : entriesPerPage 17 ≡ 681
-  -- Slot of 512: payload 384 fits, 385 gives 3.
-  pub payload-384 : encodeRefusal (fields 9 2 1 1) (replicate 384 0) 512 ≡ 0
-  pub payload-385 : encodeRefusal (fields 9 2 1 1) (replicate 385 0) 512 ≡ 3
-  -- Log2 8 with generation 0: 1.
-  pub log2-8 : encodeRefusal (fields 8 2 0 1) [] 256 ≡ 1
-  -- Format 1 with number 1: 5.
-  pub format-1 : encodeRefusal (fields 9 1 1 1) [] 512 ≡ 5
-  -- A generation 1, B Blank: Nothing. B generation 1, A Blank: Damage. A generation 2, B Blank: Damage.
-  pub a_first : oppositeSlot SlotIndex.A (valid 1 1) blankSlot ≡ Opposite.Nothing
-  pub b-first : oppositeSlot SlotIndex.B (valid 1 1) blankSlot ≡ Opposite.Damage
-  pub a_second : oppositeSlot SlotIndex.A (valid 2 1) blankSlot ≡ Opposite.Damage
-  pub a-first-judged : judged (pair (valid 1 1) blankSlot ∷ []) ≡ (winnerBeside SlotIndex.A SlotVerdict.Nothing ∷ [], Heal.Nothing)
-  pub b-first-judged : judged (pair blankSlot (valid 1 1) ∷ []) ≡ (winnerBeside SlotIndex.B SlotVerdict.Damage ∷ [], Heal.Nothing)
-  pub a-second-judged : judged (pair (valid 2 1) blankSlot ∷ []) ≡ (winnerBeside SlotIndex.A SlotVerdict.Damage ∷ [], Heal.Nothing)
-  -- Numbers 4 and candidate 5: qualifies; 5 and 5, or 4 and 6: not.
-  pub candidate : oppositeSlot SlotIndex.A (valid 1 4) (torn 5) ≡ Opposite.Candidate (MetaSeq.Number 5)
-  pub numbers-4-5 : qualifies (valid 1 4 ∷ torn 5 ∷ []) 1 (MetaSeq.Number 5) ≡ true
-  pub numbers-5-5 : qualifies (valid 1 5 ∷ torn 5 ∷ []) 1 (MetaSeq.Number 5) ≡ false
-  pub numbers-4-6 : qualifies (valid 1 4 ∷ torn 6 ∷ []) 1 (MetaSeq.Number 6) ≡ false
-  pub judged-4-5 : judged (numberedRow 4 5)
-      ≡ (winnerBeside SlotIndex.A SlotVerdict.Nothing ∷ winnerBeside SlotIndex.A SlotVerdict.InFlight ∷ [], Heal.Slot 1 SlotIndex.B)
-  pub judged-5-5 : judged (numberedRow 5 5)
-      ≡ (winnerBeside SlotIndex.A SlotVerdict.Nothing ∷ winnerBeside SlotIndex.A SlotVerdict.Damage ∷ [], Heal.Nothing)
-  pub judged-4-6 : judged (numberedRow 4 6)
-      ≡ (winnerBeside SlotIndex.A SlotVerdict.Nothing ∷ winnerBeside SlotIndex.A SlotVerdict.Damage ∷ [], Heal.Nothing)
-  -- 24 zero bytes as page 0: accepted.
-  pub empty-page : decodePage (replicate 24 0) 0 41 ≡ given (page (record { page_index = 0; next_seq = 0; count = 0 }))
-  -- Name of 24 letters: accepted; C0 80 (hexadecimal): 35.
-  pub letters-24 : named (replicate 24 0x61) ≡ given (record { bytes = replicate 24 0x61; len = 24 })
-  pub c0-80 : named (0xC0 ∷ 0x80 ∷ []) ≡ refusal 35
-  -- Both log2 12, one page: end 16,384; file of 16,383: 26.
-  pub table-end : table_end volume ≡ given 16384
-  pub file-16383 : fileCheck volume 16383 ≡ refusal 26
+use Rattle.page.specs.Read.{decodePage}
+use Rattle.starred.specs.Starred.{Starred, Capacities}
 
 pub starred : Starred
 unfolding crc32c finalRemainder remainder digest reversed entriesPerPage blockSize clamp encodeRefusal oppositeSlot blank badPayload numbered unsupported pairCase firstVerdicts firstTally cleanMark storeRules demoted pairHeal rowRules verdicts judgeRow decodePage le named nameOk utf8 utf8Octets table_end fileCheck
@@ -163,8 +43,6 @@ starred =
       file-16383 = refl;
     }
 
--- Entries per page for log2 12 to 16 (document 01, "Volume record and pages").
-pub capacities : (entriesPerPage 12 ≡ 41) × (entriesPerPage 13 ≡ 83) × (entriesPerPage 14 ≡ 169) × (entriesPerPage 15 ≡ 339)
-    × (entriesPerPage 16 ≡ 681)
+pub capacities : Capacities
 unfolding entriesPerPage blockSize clamp
 capacities = (refl, refl, refl, refl, refl)

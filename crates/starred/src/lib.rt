@@ -1,2 +1,14 @@
-// Document 01's starred examples: proofs/Starred.antt.
+// The starred examples, "Slots and pages at their edges".
 #![tactic(auto)]
+
+ghost use Rattle.starred.specs.Starred.{Starred, Capacities};
+
+// Does nothing: its contract is the examples.
+pub fn examples()
+    ensures { Starred }
+{}
+
+// Does nothing: its contract is the capacities of a page.
+pub fn capacities()
+    ensures { Capacities }
+{}
