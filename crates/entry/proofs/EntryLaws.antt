@@ -1,27 +1,20 @@
--- Laws of table entries: an entry that is written, one that is read, and that each gives back the other.
-use Rattle.std.proofs.Common.{subst, ◌≡◌, refl, sym, ap, ◌∙◌, Bool, true, false, cond, List, [], ◌∷◌, ◌++◌, ℕ, ◌^◌, ◌≤◌, ◌<◌, arith, le-leb, lit<, length, take, drop}
-use borrow.Author.Tests.{lt-leb}
-use Rattle.codec.specs.Outcome.{Outcome, given, refusal, isGiven}
+-- Laws of table entries: an entry that is written, its name, and that what is written is read back and what is read is written back.
+use Rattle.std.proofs.Common.{subst, ◌≡◌, refl, sym, ap, ◌∙◌, List, [], ◌∷◌, ◌++◌, ℕ, ◌^◌, ◌≤◌, ◌<◌, arith, lit<, length, length-append}
+use Rattle.codec.specs.Outcome.{given, refusal}
 use Rattle.codec.proofs.FieldLaws.{Field, byte, number, run, row, row-append, ◌&◌, nil, At, ReadAt, row_read}
-use Rattle.region.specs.Error.{checkOutcome}
-use Rattle.region.specs.Kind.{kind_of}
-use Rattle.region.specs.declared.meta.Check.{Check}
-use Rattle.region.specs.declared.meta.MetaError.{MetaError}
-use Rattle.region.proofs.OutcomeLaws.{then-given}
-use Rattle.name.specs.Name.{noName, paddedCheck}
-use Rattle.name.specs.declared.meta.RegionName.{RegionName}
-use Rattle.name.proofs.NameLaws.{padded-bytes, padded-none}
-use Rattle.entry.specs.Layout.{rawFront, rawPlaces, frontBytes, placesBytes, partsBytes}
-use Rattle.entry.specs.declared.layout.EntryFront.{EntryFront}
-use Rattle.entry.specs.declared.layout.EntryPlaces.{EntryPlaces}
-use Rattle.entry.proofs.LayoutLaws.{length-parts}
+use Rattle.region.proofs.FitLaws.{held-there}
+use Rattle.name.specs.Name.{padded}
+use Rattle.name.proofs.NameLaws.{padded-bytes}
+use Rattle.entry.specs.Layout.{frontBytes, placesBytes, partsBytes}
 use Rattle.entry.specs.declared.meta2.RawEntry.{RawEntry}
 use Rattle.entry.specs.declared.meta2.Entry2.{Entry2}
 use Rattle.entry.specs.declared.meta2.EntryLimits.{EntryLimits}
-use Rattle.entry.specs.declared.meta2.FoundKind.{FoundKind}
-use Rattle.entry.specs.Entry.{noEntry, joined, frontOf, places_of, raw_entry, entryRead, rawEntryOr, entryBytes, foundKind, foundKindName, toRaw}
-use Rattle.entry.specs.Check.{fieldsCheck, accepted, nameBeside, checkEntry, checkedName}
-use Rattle.entry.proofs.CheckLaws.{fields-passed, accepted-kind}
+use Rattle.entry.specs.declared.meta2.FoundName.{FoundName}
+use Rattle.entry.specs.declared.meta2.NameAndKind.{NameAndKind}
+use Rattle.entry.specs.Entry.{frontOf, places_of, raw_entry, entryRead, entryBytes, foundName, nameAndKind, foundBoth, toRaw}
+use Rattle.entry.specs.Check.{checkEntry}
+use Rattle.entry.proofs.LayoutLaws.{length-parts}
+use Rattle.entry.proofs.CheckLaws.{entry-passed}
 
 -- ---- an entry that is written
 
@@ -29,37 +22,13 @@ pub length-entry : (e : RawEntry) → length e.name ≡ 24 → length (entryByte
 unfolding entryBytes
 length-entry e name = length-parts (frontOf e) e.name name (places_of e)
 
--- ---- an entry that is read
-
--- Bytes that end before an end within the entry.
-pub entry-cut : (s : List ℕ) (end : ℕ) {answer : Check} {entry : RawEntry} → length s < end → end ≤ 96
-    → (answer ≡ Check.Fail MetaError.Length) × (entry ≡ noEntry)
-    → (checkOutcome answer ≡ entryRead s) × (entry ≡ rawEntryOr s)
-unfolding entryRead rawEntryOr
-entry-cut s end short within refused =
-    let past : length s < 96 = omega arith in
-    (ap checkOutcome refused.0 ∙ simp (lt-leb _ _ past), refused.1 ∙ simp (lt-leb _ _ past))
-
-pub entry-there : (s : List ℕ) {front : EntryFront} {name : List ℕ} {places : EntryPlaces}
-    → 96 ≤ length s
-    → front ≡ rawFront s
-    → name ≡ take 24 (drop 8 s)
-    → places ≡ rawPlaces s
-    → (◌≡◌ {A = Outcome (Unit {0})} (given tt) (entryRead s)) × (joined front name places ≡ rawEntryOr s)
-unfolding entryRead rawEntryOr
-entry-there s long front-is name-is places_is = (simp (le-leb _ _ long), simp (le-leb _ _ long, front-is, name-is, places_is))
-
 -- ---- an entry's name
 
-pub nothing-named : (e : RawEntry) {number : ℕ} → paddedCheck e.name ≡ refusal number → (foundKind e ≡ FoundKind.Nothing) × (foundKindName e ≡ noName)
-unfolding foundKind foundKindName
-nothing-named e refused =
-    let known : Bool = isGiven (kind_of e.kind) in
-    (simp refused, ap (λ (n : RegionName). cond known n noName) (padded-none e.name refused) ∙ none known)
-  where
-    none : (known : Bool) → cond known noName noName ≡ noName
-    none true = refl
-    none false = refl
+-- A name that does not decode is not found, nor a kind beside it.
+pub nothing-named : (e : RawEntry) {number : ℕ} → padded e.name ≡ refusal number
+    → (foundName (padded e.name) ≡ FoundName.Nothing) × (foundBoth (nameAndKind e) ≡ NameAndKind.Nothing)
+unfolding nameAndKind
+nothing-named e refused = (simp refused, simp refused)
 
 -- ---- an entry that was written is read back, whatever follows it
 
@@ -177,25 +146,18 @@ module _ {e : RawEntry} (fits : Fits e) (rest : List ℕ) where
         field_at 15,
       )
 
+-- So it is what `read` gives of its bytes and any behind them.
+pub read_back : {e : RawEntry} → Fits e → (rest : List ℕ) → entryRead (entryBytes e ++ rest) ≡ given (stored e)
+unfolding entryRead
+read_back {e} fits rest =
+    let long : 96 ≤ length (entryBytes e ++ rest) = simp (length-append, length-entry e fits.name) (omega arith) in
+    held-there 96 _ _ long ∙ ap given (entry-back fits rest)
+
 -- ---- an entry that was accepted is written back as it was read
 
-module _ (e : RawEntry) (l : EntryLimits) {x : Entry2} (given_is : checkEntry e l ≡ given x) (name-length : length e.name ≡ 24) where
-  abbrev name-check : Outcome (Unit {0})
-  name-check = paddedCheck e.name
-
-  fields-given : (fieldsCheck e name-check l ≡ given tt) × (accepted e ≡ given x)
-  unfolding checkEntry
-  fields-given = let fields = then-given (fieldsCheck e name-check l) (λ _. accepted e) given_is in (fields.first-is, fields.next-is)
-
-  name-kept : (checkedName e l).bytes ≡ e.name
-  unfolding checkedName
-  name-kept =
-      ap (λ (o : Outcome (Unit {0})). (nameBeside o e.name).bytes) fields-given.0
-      ∙ padded-bytes e.name (fields-passed e name-check l fields-given.0).1 name-length
-
-  pub accepted-back : toRaw x (checkedName e l) ≡ stored e
-  unfolding toRaw
-  accepted-back =
-      let kept = accepted-kind e fields-given.1 in
-      let ready = (fields-passed e name-check l fields-given.0).0 in
-      ap (λ (y : Entry2). toRaw y (checkedName e l)) kept.0 ∙ simp (kept.1, name-kept, ready)
+pub accepted-back : (e : RawEntry) (l : EntryLimits) {x : Entry2} → checkEntry e l ≡ given x → length e.name ≡ 24 → toRaw x ≡ stored e
+unfolding toRaw
+accepted-back e l is size =
+    let passed = entry-passed e l is in
+    let name = padded-bytes e.name passed.name size in
+    ap toRaw passed.kept ∙ simp (passed.kind, name, passed.state)

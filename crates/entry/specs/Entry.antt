@@ -1,10 +1,11 @@
 -- A table entry of 96 bytes (document 01, "Volume record and pages"): as it is read, as it is written, and what is asked of an entry that
 -- need not pass its checks.
-use Rattle.std.specs.Prelude.{Bool, cond, List, ℕ, leb, length, take, drop, replicate}
-use Rattle.codec.specs.Outcome.{Outcome, given, refusal, and_then, isGiven}
+use Rattle.std.specs.Prelude.{List, ℕ, take, drop}
+use Rattle.codec.specs.Outcome.{Outcome, given, refusal, and_then}
+use Rattle.region.specs.Error.{errorNumber, held}
 use Rattle.region.specs.Kind.{kindNumber, kind_of}
 use Rattle.region.specs.declared.meta.RegionKind.{RegionKind}
-use Rattle.name.specs.Name.{noName, paddedCheck, paddedName}
+use Rattle.name.specs.Name.{padded}
 use Rattle.name.specs.declared.meta.RegionName.{RegionName}
 use Rattle.entry_check.specs.Reserved.{widenedSpan}
 use Rattle.entry_check.specs.declared.meta2.ReservedSpan.{ReservedSpan}
@@ -14,7 +15,9 @@ use Rattle.entry.specs.declared.layout.EntryPlaces.{EntryPlaces}
 use Rattle.entry.specs.declared.meta2.RawEntry.{RawEntry}
 use Rattle.entry.specs.declared.meta2.Entry2.{Entry2}
 use Rattle.entry.specs.declared.meta2.EntryLimits.{EntryLimits}
-use Rattle.entry.specs.declared.meta2.FoundKind.{FoundKind}
+use Rattle.entry.specs.declared.meta2.RawEntryRead.{RawEntryRead}
+use Rattle.entry.specs.declared.meta2.FoundName.{FoundName}
+use Rattle.entry.specs.declared.meta2.NameAndKind.{NameAndKind}
 
 -- An entry of its parts, and its parts.
 abbrev pub joined : EntryFront → List ℕ → EntryPlaces → RawEntry
@@ -67,67 +70,45 @@ places_of e =
 abbrev pub raw_entry : List ℕ → RawEntry
 raw_entry s = joined (rawFront s) (take 24 (drop 8 s)) (rawPlaces s)
 
--- The entry of zeros that goes with a refusal.
-unfoldable pub noEntry : RawEntry
-noEntry =
-    record {
-      seq = 0;
-      kind = 0;
-      state = 0;
-      flags = 0;
-      compat_flags = 0;
-      name = replicate 24 0;
-      tag = 0;
-      extent_count = 0;
-      reserved = 0;
-      header_a = 0;
-      header_b = 0;
-      data_size = 0;
-      capacity = 0;
-      span_start = 0;
-      span_end = 0;
-      footprint_seq = 0;
-    }
-
 -- An entry is read: 11 below 96 bytes.
-unfoldable pub entryRead : List ℕ → Outcome (Unit {0})
-entryRead s = cond (leb 96 (length s)) (given tt) (refusal 11)
+unfoldable pub entryRead : List ℕ → Outcome RawEntry
+entryRead s = held 96 s (raw_entry s)
 
-unfoldable pub rawEntryOr : List ℕ → RawEntry
-rawEntryOr s = cond (leb 96 (length s)) (raw_entry s) noEntry
+abbrev pub rawOutcome : RawEntryRead → Outcome RawEntry
+rawOutcome (RawEntryRead.Entry e) = given e
+rawOutcome (RawEntryRead.Refused error) = refusal (errorNumber error)
 
 -- The entry as it is written, zeros at 38.
 unfoldable pub entryBytes : RawEntry → List ℕ
 entryBytes e = partsBytes (frontOf e) e.name (places_of e)
 
--- The two lookups: a name that decodes, and a name and a kind that both do.
-unfoldable pub foundName : List ℕ → Bool
-foundName raw = isGiven (paddedCheck raw)
+-- A name that decodes.
+abbrev pub foundName : Outcome RegionName → FoundName
+foundName (given name) = FoundName.Name name
+foundName (refusal number) = FoundName.Nothing
 
-abbrev pub kindFound : Outcome RegionKind → FoundKind
-kindFound (given kind) = FoundKind.Kind kind
-kindFound (refusal number) = FoundKind.Nothing
+-- A name and a kind that both do.
+unfoldable pub nameAndKind : RawEntry → Outcome (RegionName × RegionKind)
+nameAndKind e = and_then (padded e.name) (λ name. and_then (kind_of e.kind) (λ kind. given (name, kind)))
 
-unfoldable pub foundKind : RawEntry → FoundKind
-foundKind e = kindFound (and_then (paddedCheck e.name) (λ _. kind_of e.kind))
-
-unfoldable pub foundKindName : RawEntry → RegionName
-foundKindName e = cond (isGiven (kind_of e.kind)) (paddedName e.name) noName
+abbrev pub foundBoth : Outcome (RegionName × RegionKind) → NameAndKind
+foundBoth (given both) = NameAndKind.Both both.0 both.1
+foundBoth (refusal number) = NameAndKind.Nothing
 
 -- What an entry keeps reserved although it fails its checks.
 abbrev pub reservedSpan : RawEntry → EntryLimits → ReservedSpan
 reservedSpan e l = widenedSpan e.span_start e.span_end l.log2_block l.table_end l.file_len
 
 -- An accepted entry as stored, its state Ready.
-unfoldable pub toRaw : Entry2 → RegionName → RawEntry
-toRaw e n =
+unfoldable pub toRaw : Entry2 → RawEntry
+toRaw e =
     record {
       seq = e.seq;
       kind = kindNumber e.kind;
       state = 1;
       flags = e.flags;
       compat_flags = e.compat_flags;
-      name = n.bytes;
+      name = e.name.bytes;
       tag = e.tag;
       extent_count = e.extent_count;
       reserved = 0;

@@ -20,10 +20,11 @@
 // | 88 | 8 | footprint_seq | 1 to the page's number |
 ghost use Rattle.std.specs.Prelude.{◌≡◌};
 ghost use Rattle.codec.specs.Bytes.{putWhole};
+ghost use Rattle.region.specs.Block.{blockSize};
 ghost use Rattle.region.specs.Error.{checkOutcome, encodedOutcome, fitted};
-ghost use Rattle.name.specs.Name.{paddedName};
-ghost use Rattle.entry.specs.Entry.{noEntry, entryRead, rawEntryOr, entryBytes, foundName, foundKind, foundKindName, reservedSpan, toRaw};
-ghost use Rattle.entry.specs.Check.{fieldsCheck, accepted, entryOutcome, checkEntry, checkedName};
+ghost use Rattle.name.specs.Name.{padded};
+ghost use Rattle.entry.specs.Entry.{entryRead, rawOutcome, entryBytes, foundName, nameAndKind, foundBoth, reservedSpan, toRaw};
+ghost use Rattle.entry.specs.Check.{placesCheck, entryOutcome, checkEntry};
 
 use crate::layout::{
     EntryFront, EntryFrontRead, EntryPlaces, EntryPlacesRead, read_front, read_places, write_parts,
@@ -33,7 +34,7 @@ use entry_check::meta2::{
     ReservedSpan, check_content, check_footprint, check_header, check_known, check_sizes,
     check_span, check_state, widened_span,
 };
-use name::meta::RegionName;
+use name::meta::{Named, RegionName};
 use region::meta::{Check, KindRead, MetaEncoded, MetaError, RegionKind};
 
 // One table entry as stored: every field, before the per-entry checks (an entry that fails them makes its region unavailable, and its
@@ -74,14 +75,14 @@ pub struct RawEntry {
     pub footprint_seq: u64,
 }
 
-// An enum can hold no array: the entry stands beside the answer, zeros at a refusal.
+// The entry, or that there are fewer bytes.
 #[derive(Clone, Copy)]
-pub struct RawEntryRead {
-    pub answer: Check,
-    pub entry: RawEntry,
+pub enum RawEntryRead {
+    Entry(RawEntry),
+    Refused(MetaError),
 }
 
-// A table entry that passed the per-entry checks. Its name stands beside it.
+// A table entry that passed the per-entry checks.
 #[derive(Clone, Copy)]
 pub struct Entry2 {
     pub seq: u32,
@@ -90,6 +91,7 @@ pub struct Entry2 {
     pub flags: u8,
     // Kept verbatim.
     pub compat_flags: u8,
+    pub name: RegionName,
     pub tag: u32,
     pub extent_count: u16,
     pub header_a: u64,
@@ -108,32 +110,18 @@ pub enum Entry2Read {
     Refused(MetaError),
 }
 
-// The checked entry and its name, of no bytes at a refusal.
+// A name that decodes.
 #[derive(Clone, Copy)]
-pub struct Checked {
-    pub answer: Entry2Read,
-    pub name: RegionName,
-}
-
-// A name that decodes; else none, of no bytes.
-#[derive(Clone, Copy)]
-pub struct FoundName {
-    pub found: bool,
-    pub name: RegionName,
-}
-
-// A kind, where the byte stands for one.
-#[derive(Clone, Copy)]
-pub enum FoundKind {
-    Kind(RegionKind),
+pub enum FoundName {
+    Name(RegionName),
     Nothing,
 }
 
-// A name and a kind, where both decode; else neither.
+// A name and a kind that both decode.
 #[derive(Clone, Copy)]
-pub struct NameAndKind {
-    pub kind: FoundKind,
-    pub name: RegionName,
+pub enum NameAndKind {
+    Both(RegionName, RegionKind),
+    Nothing,
 }
 
 // What the per-entry checks need from the container.
@@ -151,40 +139,37 @@ pub struct EntryLimits {
 
 impl RawEntry {
     // The entry in the first 96 bytes.
+    #[tactic(auto, unfolding(crate::specs::Entry::entryRead, region::specs::Error::held, codec::specs::Cursor::step))]
     pub fn read(bytes: &[u8]) -> RawEntryRead
-        ensures answer_value { checkOutcome result.answer ≡ entryRead bytes.now }
-        ensures result_value { result.entry ≡ rawEntryOr bytes.now }
+        ensures { rawOutcome result ≡ entryRead bytes.now }
     {
         let EntryFrontRead::Fields(front) = read_front(bytes) else {
-            return truncated();
+            return RawEntryRead::Refused(MetaError::Length);
         };
         let Read::Value(name, _) = Reader { pos: 8 }.array(bytes) else {
-            return truncated();
+            return RawEntryRead::Refused(MetaError::Length);
         };
         let EntryPlacesRead::Fields(places) = read_places(bytes) else {
-            return truncated();
+            return RawEntryRead::Refused(MetaError::Length);
         };
-        RawEntryRead {
-            answer: Check::Pass,
-            entry: RawEntry {
-                seq: front.seq,
-                kind: front.kind,
-                state: front.state,
-                flags: front.flags,
-                compat_flags: front.compat_flags,
-                name,
-                tag: front.tag,
-                extent_count: front.extent_count,
-                reserved: front.reserved,
-                header_a: places.header_a,
-                header_b: places.header_b,
-                data_size: places.data_size,
-                capacity: places.capacity,
-                span_start: places.span_start,
-                span_end: places.span_end,
-                footprint_seq: places.footprint_seq,
-            },
-        }
+        RawEntryRead::Entry(RawEntry {
+            seq: front.seq,
+            kind: front.kind,
+            state: front.state,
+            flags: front.flags,
+            compat_flags: front.compat_flags,
+            name,
+            tag: front.tag,
+            extent_count: front.extent_count,
+            reserved: front.reserved,
+            header_a: places.header_a,
+            header_b: places.header_b,
+            data_size: places.data_size,
+            capacity: places.capacity,
+            span_start: places.span_start,
+            span_end: places.span_end,
+            footprint_seq: places.footprint_seq,
+        })
     }
 
     // Writes the entry to the first 96 bytes of `out`, zeros at 38. A refusal keeps `out`.
@@ -217,69 +202,67 @@ impl RawEntry {
     }
 
     // The per-entry checks. An entry that fails them makes its region unavailable; the page itself stands.
-    #[tactic(auto, unfolding(crate::specs::Check::checkEntry, crate::specs::Check::checkedName))]
-    pub fn check(self, lim: EntryLimits) -> Checked
-        ensures answer_value { entryOutcome result.answer ≡ checkEntry self lim }
-        ensures name_value { result.name ≡ checkedName self lim }
+    #[tactic(auto, unfolding(crate::specs::Check::checkEntry), using(crate::proofs::CheckLaws::known_block))]
+    pub fn check(self, lim: EntryLimits) -> Entry2Read
+        ensures { entryOutcome result ≡ checkEntry self lim }
     {
-        let raw_name = self.name;
-        let named = RegionName::from_padded(raw_name);
-        let name_answer = named.answer;
-        if let Check::Fail(error) = check_fields(self, name_answer, lim) {
-            return Checked {
-                answer: Entry2Read::Refused(error),
-                name: RegionName::none(),
-            };
+        if let Check::Fail(error) = check_known(self.flags, lim.log2_block) {
+            return Entry2Read::Refused(error);
         }
-        let name = named.name;
-        Checked {
-            answer: accepted(self),
+        let kind = match RegionKind::from_u8(self.kind) {
+            KindRead::Refused(error) => return Entry2Read::Refused(error),
+            KindRead::Kind(kind) => kind,
+        };
+        if let Check::Fail(error) = check_state(self.state) {
+            return Entry2Read::Refused(error);
+        }
+        let name = match RegionName::from_padded(self.name) {
+            Named::Refused(error) => return Entry2Read::Refused(error),
+            Named::Name(name) => name,
+        };
+        if let Check::Fail(error) = check_places(self, kind, lim) {
+            return Entry2Read::Refused(error);
+        }
+        Entry2Read::Entry(Entry2 {
+            seq: self.seq,
+            kind,
+            flags: self.flags,
+            compat_flags: self.compat_flags,
             name,
-        }
+            tag: self.tag,
+            extent_count: self.extent_count,
+            header_a: self.header_a,
+            header_b: self.header_b,
+            data_size: self.data_size,
+            capacity: self.capacity,
+            span_start: self.span_start,
+            span_end: self.span_end,
+            footprint_seq: self.footprint_seq,
+        })
     }
 
     // The entry's name, when it decodes (whatever else fails): a name an unavailable entry keeps reserved.
-    #[tactic(auto, unfolding(crate::specs::Entry::foundName))]
     pub fn name(self) -> FoundName
-        ensures found_value { result.found ≡ foundName self.name }
-        ensures name_value { result.name ≡ paddedName self.name }
+        ensures { result ≡ foundName (padded self.name) }
     {
-        let raw_name = self.name;
-        let named = RegionName::from_padded(raw_name);
-        let name_answer = named.answer;
-        let name = named.name;
-        let Check::Pass = name_answer else {
-            return FoundName { found: false, name };
-        };
-        FoundName { found: true, name }
+        match RegionName::from_padded(self.name) {
+            Named::Refused(_) => FoundName::Nothing,
+            Named::Name(name) => FoundName::Name(name),
+        }
     }
 
     // The entry's name and kind, when both decode (so an entry that fails the per-entry checks can still be named in a report).
-    #[tactic(auto, unfolding(crate::specs::Entry::foundKind, crate::specs::Entry::foundKindName))]
+    #[tactic(auto, unfolding(crate::specs::Entry::nameAndKind))]
     pub fn name_and_kind(self) -> NameAndKind
-        ensures kind_value { result.kind ≡ foundKind self }
-        ensures name_value { result.name ≡ foundKindName self }
+        ensures { result ≡ foundBoth (nameAndKind self) }
     {
-        let raw_name = self.name;
-        let named = RegionName::from_padded(raw_name);
-        let name_answer = named.answer;
-        let Check::Pass = name_answer else {
-            return NameAndKind {
-                kind: FoundKind::Nothing,
-                name: RegionName::none(),
-            };
+        let Named::Name(name) = RegionName::from_padded(self.name) else {
+            return NameAndKind::Nothing;
         };
         let KindRead::Kind(kind) = RegionKind::from_u8(self.kind) else {
-            return NameAndKind {
-                kind: FoundKind::Nothing,
-                name: RegionName::none(),
-            };
+            return NameAndKind::Nothing;
         };
-        let name = named.name;
-        NameAndKind {
-            kind: FoundKind::Kind(kind),
-            name,
-        }
+        NameAndKind::Both(name, kind)
     }
 
     // The bytes an unavailable entry keeps reserved: its span widened to whole blocks, then clamped to the file and to past the table
@@ -300,18 +283,19 @@ impl RawEntry {
 impl Entry2 {
     // The entry as stored (for writing it back).
     #[tactic(auto, unfolding(crate::specs::Entry::toRaw))]
-    pub fn to_raw(self, name: RegionName) -> RawEntry
-        ensures { result ≡ toRaw self name }
+    pub fn to_raw(self) -> RawEntry
+        ensures { result ≡ toRaw self }
     {
         let kind = self.kind;
-        let name_bytes = name.bytes;
+        let name = self.name;
+        let bytes = name.bytes;
         RawEntry {
             seq: self.seq,
             kind: kind.to_u8(),
             state: 1,
             flags: self.flags,
             compat_flags: self.compat_flags,
-            name: name_bytes,
+            name: bytes,
             tag: self.tag,
             extent_count: self.extent_count,
             reserved: 0,
@@ -326,53 +310,11 @@ impl Entry2 {
     }
 }
 
-// The answer to fewer than 96 bytes.
-#[tactic(auto, unfolding(crate::specs::Entry::noEntry))]
-fn truncated() -> RawEntryRead
-    ensures answer_value { result.answer ≡ Check.Fail MetaError.Length }
-    ensures result_value { result.entry ≡ noEntry }
+// The checks behind the name's, in their order.
+#[tactic(auto, unfolding(crate::specs::Check::placesCheck))]
+fn check_places(e: RawEntry, kind: RegionKind, lim: EntryLimits) -> Check
+    ensures { checkOutcome result ≡ placesCheck e kind lim (blockSize lim.log2_block) }
 {
-    RawEntryRead {
-        answer: Check::Fail(MetaError::Length),
-        entry: RawEntry {
-            seq: 0,
-            kind: 0,
-            state: 0,
-            flags: 0,
-            compat_flags: 0,
-            name: [0u8; 24],
-            tag: 0,
-            extent_count: 0,
-            reserved: 0,
-            header_a: 0,
-            header_b: 0,
-            data_size: 0,
-            capacity: 0,
-            span_start: 0,
-            span_end: 0,
-            footprint_seq: 0,
-        },
-    }
-}
-
-// The checks in their order; `name` is what the name's own check answered.
-fn check_fields(e: RawEntry, name: Check, lim: EntryLimits) -> Check
-    ensures { checkOutcome result ≡ fieldsCheck e (checkOutcome name) lim }
-{
-    let known = check_known(e.flags, lim.log2_block);
-    let Check::Pass = known else {
-        return known;
-    };
-    let KindRead::Kind(kind) = RegionKind::from_u8(e.kind) else {
-        return Check::Fail(MetaError::Field(33));
-    };
-    let state = check_state(e.state);
-    let Check::Pass = state else {
-        return state;
-    };
-    let Check::Pass = name else {
-        return name;
-    };
     let span = check_span(
         e.data_size,
         e.capacity,
@@ -413,29 +355,4 @@ fn check_fields(e: RawEntry, name: Check, lim: EntryLimits) -> Check
         return content;
     };
     check_sizes(kind, e.capacity, e.data_size, lim.log2_block)
-}
-
-// The entry that is kept of one that passed.
-#[tactic(auto, unfolding(crate::specs::Check::accepted, region::specs::Kind::kind_of))]
-fn accepted(e: RawEntry) -> Entry2Read
-    ensures { entryOutcome result ≡ accepted e }
-{
-    let KindRead::Kind(kind) = RegionKind::from_u8(e.kind) else {
-        return Entry2Read::Refused(MetaError::Field(33));
-    };
-    Entry2Read::Entry(Entry2 {
-        seq: e.seq,
-        kind,
-        flags: e.flags,
-        compat_flags: e.compat_flags,
-        tag: e.tag,
-        extent_count: e.extent_count,
-        header_a: e.header_a,
-        header_b: e.header_b,
-        data_size: e.data_size,
-        capacity: e.capacity,
-        span_start: e.span_start,
-        span_end: e.span_end,
-        footprint_seq: e.footprint_seq,
-    })
 }

@@ -1,30 +1,25 @@
 -- Metadata (document 01, "Volume record and pages") as a C host hands it over, and the numbers that it finds.
-use Rattle.std.specs.Prelude.{false, List, [], ◌∷◌, ℕ}
+use Rattle.std.specs.Prelude.{false, List, [], ◌∷◌, ℕ, replicate}
 use Rattle.codec.specs.Outcome.{Outcome, given, refusal, and_then}
 use Rattle.region.specs.Kind.{kindNumber}
+use Rattle.region.specs.declared.meta.RegionKind.{RegionKind}
 use Rattle.codec.specs.Bytes.{flag}
 use Rattle.name.specs.declared.meta.RegionName.{RegionName}
-use Rattle.name.specs.Name.{noName}
+use Rattle.name.specs.Name.{padded}
 use Rattle.volume_base.specs.declared.meta.VolumeMeta.{VolumeMeta}
 use Rattle.volume.specs.declared.meta2.VolumeMeta2.{VolumeMeta2}
 use Rattle.page.specs.declared.meta2.PageHeader.{PageHeader}
 use Rattle.page.specs.declared.meta2.Page.{Page}
-use Rattle.entry.specs.Entry.{entryRead, rawEntryOr, entryBytes, toRaw}
-use Rattle.entry.specs.Check.{checkEntry, checkedName}
+use Rattle.entry.specs.Entry.{entryRead, entryBytes, nameAndKind, reservedSpan, toRaw}
+use Rattle.entry.specs.Check.{checkEntry}
 use Rattle.entry.specs.declared.meta2.RawEntry.{RawEntry}
 use Rattle.entry.specs.declared.meta2.Entry2.{Entry2}
 use Rattle.entry.specs.declared.meta2.EntryLimits.{EntryLimits}
-use Rattle.entry.specs.declared.meta2.FoundKind.{FoundKind}
 use Rattle.entry_check.specs.declared.meta2.ReservedSpan.{ReservedSpan}
 use Rattle.host_slots.specs.Slots.{is_yes}
 
--- What stands in a lent place afterwards: the new value, or the old one at a refusal.
-abbrev pub replaced : {A B : Type 0} → B → B → Outcome A → B
-replaced new old (given value) = new
-replaced new old (refusal number) = old
-
--- The same where the new numbers are made from the outcome's value.
-abbrev pub valuesOr : {A : Type 0} → (A → List ℕ) → List ℕ → Outcome A → List ℕ
+-- What stands in a lent place afterwards: what is made from the outcome's value, or the old at a refusal.
+abbrev pub valuesOr : {A B : Type 0} → (A → B) → B → Outcome A → B
 valuesOr values old (given value) = values value
 valuesOr values old (refusal number) = old
 
@@ -97,20 +92,48 @@ entryValues e =
 
 -- The entry in the first 96 bytes, checked: 11 where there are fewer.
 unfoldable pub checkedAt : List ℕ → EntryLimits → Outcome Entry2
-checkedAt s l = and_then (entryRead s) (λ _. checkEntry (rawEntryOr s) l)
-
-unfoldable pub checkedNameAt : List ℕ → EntryLimits → RegionName
-checkedNameAt s l = replaced (checkedName (rawEntryOr s) l) noName (entryRead s)
+checkedAt s l = and_then (entryRead s) (λ e. checkEntry e l)
 
 -- An accepted entry as it is stored.
-abbrev pub restored : RegionName → List ℕ → Outcome Entry2 → List ℕ
-restored name old (given e) = entryBytes (toRaw e name)
-restored name old (refusal number) = old
+abbrev pub restored : Entry2 → List ℕ
+restored e = entryBytes (toRaw e)
 
-abbrev pub foundKindNumber : FoundKind → ℕ
-foundKindNumber FoundKind.Nothing = 0
-foundKindNumber (FoundKind.Kind kind) = kindNumber kind
+-- A name, and the names of a stored and of an accepted entry.
+abbrev pub nameBytes : RegionName → List ℕ
+nameBytes n = n.bytes
+
+abbrev pub nameLength : RegionName → ℕ
+nameLength n = n.len
+
+abbrev pub rawName : RawEntry → List ℕ
+rawName e = e.name
+
+abbrev pub entryName : Entry2 → List ℕ
+entryName e = e.name.bytes
+
+abbrev pub entryNameLength : Entry2 → ℕ
+entryNameLength e = e.name.len
+
+-- A name that decodes, zeros and the length 0 for none.
+abbrev pub decodedName : RawEntry → List ℕ
+decodedName e = valuesOr nameBytes (replicate 24 0) (padded e.name)
+
+abbrev pub decodedLength : RawEntry → ℕ
+decodedLength e = valuesOr nameLength 0 (padded e.name)
+
+-- A kind and a name that both decode, zeros for none.
+abbrev pub bothKind : RawEntry → ℕ
+bothKind e = valuesOr (λ (both : RegionName × RegionKind). kindNumber both.1) 0 (nameAndKind e)
+
+abbrev pub bothName : RawEntry → List ℕ
+bothName e = valuesOr (λ (both : RegionName × RegionKind). both.0.bytes) (replicate 24 0) (nameAndKind e)
+
+abbrev pub bothLength : RawEntry → ℕ
+bothLength e = valuesOr (λ (both : RegionName × RegionKind). both.0.len) 0 (nameAndKind e)
 
 abbrev pub spanValues : ReservedSpan → List ℕ
 spanValues ReservedSpan.Nothing = 0 ∷ 0 ∷ []
 spanValues (ReservedSpan.Span start end) = start ∷ end ∷ []
+
+abbrev pub reservedValues : EntryLimits → RawEntry → List ℕ
+reservedValues l e = spanValues (reservedSpan e l)

@@ -2,41 +2,31 @@
 ghost use Rattle.std.specs.Prelude.{◌≡◌};
 ghost use Rattle.entry.specs.Entry.{entryBytes};
 ghost use Rattle.entry.specs.Check.{entryOutcome};
-ghost use Rattle.host_meta.specs.Metadata.{limitsOf, rawValues, entryValues, checkedAt, checkedNameAt, foundKindNumber, spanValues};
+ghost use Rattle.host_meta.specs.Metadata.{limitsOf, rawValues, entryValues, checkedAt, spanValues};
 
-use entry::meta2::{Checked, Entry2, Entry2Read, EntryLimits, FoundKind, RawEntry};
+use entry::meta2::{Entry2, Entry2Read, EntryLimits, RawEntry, RawEntryRead};
 use entry_check::meta2::ReservedSpan;
-use name::meta::RegionName;
-use region::meta::Check;
 
 // The answer of `check` for the entry in the first 96 bytes.
-#[tactic(auto, unfolding(crate::specs::Metadata::checkedAt, crate::specs::Metadata::checkedNameAt))]
+#[tactic(auto, unfolding(crate::specs::Metadata::checkedAt))]
 pub fn check_at(
     entry: &[u8],
     log2_block: u8,
     table_end: u64,
     file_len: u64,
     page_meta_seq: u64,
-) -> Checked
-    ensures answer_value { entryOutcome result.answer ≡ checkedAt entry.now (limitsOf log2_block table_end file_len page_meta_seq) }
-    ensures name_value { result.name ≡ checkedNameAt entry.now (limitsOf log2_block table_end file_len page_meta_seq) }
+) -> Entry2Read
+    ensures { entryOutcome result ≡ checkedAt entry.now (limitsOf log2_block table_end file_len page_meta_seq) }
 {
-    let read = RawEntry::read(entry);
-    let answer = read.answer;
-    if let Check::Fail(error) = answer {
-        return Checked {
-            answer: Entry2Read::Refused(error),
-            name: RegionName::none(),
-        };
+    match RawEntry::read(entry) {
+        RawEntryRead::Refused(error) => Entry2Read::Refused(error),
+        RawEntryRead::Entry(raw) => raw.check(EntryLimits {
+            log2_block,
+            table_end,
+            file_len,
+            page_meta_seq,
+        }),
     }
-    let raw = read.entry;
-    let limits = EntryLimits {
-        log2_block,
-        table_end,
-        file_len,
-        page_meta_seq,
-    };
-    raw.check(limits)
 }
 
 // The 96 bytes of an entry.
@@ -91,16 +81,6 @@ pub fn entry_values(e: Entry2) -> [u64; 13]
         e.span_end,
         e.footprint_seq,
     ]
-}
-
-// 0 for none.
-pub fn kind_number(kind: FoundKind) -> u8
-    ensures { result ≡ foundKindNumber kind }
-{
-    match kind {
-        FoundKind::Nothing => 0,
-        FoundKind::Kind(found) => found.to_u8(),
-    }
 }
 
 // Start and end, two zeros for none.

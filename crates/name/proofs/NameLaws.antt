@@ -3,11 +3,11 @@ use Rattle.std.proofs.Common.{◌≡◌, refl, sym, ap, ◌∙◌, Bool, true, f
 use borrow.Author.Tests.{eqb-false, not-false}
 use Rattle.std.proofs.Math.ListN.{length-replicate, replicate-append-replicate}
 use Rattle.codec.specs.Bytes.{allZero, put}
-use Rattle.codec.specs.Outcome.{given, refusal}
+use Rattle.codec.specs.Outcome.{given}
 use Rattle.codec.proofs.CursorLaws.{put-prefix}
 use Rattle.name.specs.Utf8.{utf8}
 use Rattle.name.specs.Scalar.{Encoded}
-use Rattle.name.specs.Name.{zeroAt, nameOk, nameRefused, nameCheck, noName, name_of, paddedCheck, paddedName}
+use Rattle.name.specs.Name.{zeroAt, nameOk, stored, nameRefused, named, padded}
 use Rattle.name.specs.declared.meta.RegionName.{RegionName}
 use Rattle.name.proofs.Utf8Laws.{utf8-encoded, encoded-utf8}
 
@@ -76,30 +76,21 @@ unfolding nameOk
 encoded-name s some short whole encoded =
     rw (ne_eqb (length s) 0 (λ none. omega arith), le-ltb 24 (length s) short, eq-eqb (zeroAt s) (length s) whole) (encoded-utf8 s encoded)
 
-module _ (s : List ℕ) (ok : nameOk s ≡ true) where
-  pub name-given : nameCheck s ≡ given tt
-  unfolding nameCheck
-  name-given = rw ok
+pub name-given : (s : List ℕ) → nameOk s ≡ true → named s ≡ given (stored s)
+unfolding named
+name-given s ok = rw ok
 
-  pub name-stored : name_of s ≡ record { bytes = s ++ replicate (24 - length s) 0; len = length s }
-  unfolding name_of
-  name-stored = rw ok
+pub name-refused : (s : List ℕ) → nameOk s ≡ false → named s ≡ nameRefused
+unfolding named
+name-refused s not-ok = rw not-ok
 
-module _ (s : List ℕ) (not-ok : nameOk s ≡ false) where
-  pub name-refused : nameCheck s ≡ nameRefused
-  unfolding nameCheck
-  name-refused = rw not-ok
-
-  pub name-none : name_of s ≡ noName
-  unfolding name_of
-  name-none = rw not-ok
-
-pub name-accepted : (s : List ℕ) → nameCheck s ≡ given tt → nameOk s ≡ true
-unfolding nameCheck
-name-accepted s is = go (nameOk s) is
+-- What is given is the name as it is stored, and the bytes were a name.
+pub name-accepted : (s : List ℕ) {name : RegionName} → named s ≡ given name → (nameOk s ≡ true) × (name ≡ stored s)
+unfolding named
+name-accepted s {name} is = go (nameOk s) is
   where
-    go : (ok : Bool) → cond ok (given tt) nameRefused ≡ given tt → ok ≡ true
-    go true is = refl
+    go : (ok : Bool) → cond ok (given (stored s)) nameRefused ≡ given name → (ok ≡ true) × (name ≡ stored s)
+    go true is = (refl, cc)
     go false is = let never : ◌≡◌ {A = ℕ} 0 1 = cc in absurd (omega arith)
 
 -- A name copied over 24 zeros.
@@ -116,53 +107,41 @@ module _ (raw : List ℕ) where
   padding = drop (zeroAt raw) raw
 
   -- A name that is read from 24 bytes is stored as these bytes.
-  pub padded-bytes : paddedCheck raw ≡ given tt → length raw ≡ 24 → (paddedName raw).bytes ≡ raw
-  unfolding paddedCheck paddedName
-  padded-bytes is size = go (allZero padding) refl is
+  pub padded-bytes : {name : RegionName} → padded raw ≡ given name → length raw ≡ 24 → name.bytes ≡ raw
+  unfolding padded
+  padded-bytes {name} is size = go (allZero padding) refl is
     where
-      go : (zeros : Bool) → allZero padding ≡ zeros → cond zeros (nameCheck text) nameRefused ≡ given tt → (cond zeros (name_of text) noName).bytes ≡ raw
+      go : (zeros : Bool) → allZero padding ≡ zeros → cond zeros (named text) nameRefused ≡ given name → name.bytes ≡ raw
       go false test is = let never : ◌≡◌ {A = ℕ} 0 1 = cc in absurd (omega arith)
       go true test is =
           let front : length text ≡ zeroAt raw = length-take-le (zeroAt raw) raw (zero-within raw) in
           let behind : length padding ≡ 24 - length text = simp length-drop (omega arith) in
-          ap (λ (n : RegionName). n.bytes) (name-stored text (name-accepted text is))
+          ap (λ (n : RegionName). n.bytes) (name-accepted text is).1
           ∙ ap (λ (n : ℕ). text ++ replicate n 0) (sym behind)
           ∙ ap (λ (l : List ℕ). text ++ l) (sym (all-zeros padding test))
           ∙ take-append-drop (zeroAt raw) raw
 
-  -- What does not pass as a name is none.
-  pub padded-none : {number : ℕ} → paddedCheck raw ≡ refusal number → paddedName raw ≡ noName
-  unfolding paddedCheck paddedName nameCheck name_of
-  padded-none {number} is = go (allZero padding) (nameOk text) _ is
-    where
-      go : (zeros ok : Bool) (name : RegionName) → cond zeros (cond ok (given tt) nameRefused) nameRefused ≡ refusal number
-          → cond zeros (cond ok name noName) noName ≡ noName
-      go true true name is = let never : ◌≡◌ {A = ℕ} 0 1 = cc in absurd (omega arith)
-      go true false name is = refl
-      go false ok name is = refl
-
 -- A name that is stored is read back.
 module _ (s : List ℕ) (ok : nameOk s ≡ true) where
-  abbrev stored : List ℕ
-  stored = s ++ replicate (24 - length s) 0
+  abbrev bytes : List ℕ
+  bytes = (stored s).bytes
 
-  stored-end : zeroAt stored ≡ length s
+  stored-end : zeroAt bytes ≡ length s
   stored-end = zero-behind s (24 - length s) (name-facts s ok).2
 
-  stored-front : take (zeroAt stored) stored ≡ s
-  stored-front = take_at s (replicate (24 - length s) 0) (zeroAt stored) (sym stored-end)
+  stored-front : take (zeroAt bytes) bytes ≡ s
+  stored-front = take_at s (replicate (24 - length s) 0) (zeroAt bytes) (sym stored-end)
 
-  stored-zeros : allZero (drop (zeroAt stored) stored) ≡ true
+  stored-zeros : allZero (drop (zeroAt bytes) bytes) ≡ true
   stored-zeros =
-      ap allZero (drop_at s (replicate (24 - length s) 0) (zeroAt stored) (sym stored-end)) ∙ zeros-zero (24 - length s)
+      ap allZero (drop_at s (replicate (24 - length s) 0) (zeroAt bytes) (sym stored-end)) ∙ zeros-zero (24 - length s)
 
-  stored_bytes : (name_of s).bytes ≡ stored
-  stored_bytes = ap (λ (n : RegionName). n.bytes) (name-stored s ok)
+  pub stored-back : padded (stored s).bytes ≡ given (stored s)
+  unfolding padded
+  stored-back = rw (stored-zeros, stored-front) (name-given s ok)
 
-  pub name-check-back : paddedCheck (name_of s).bytes ≡ given tt
-  unfolding paddedCheck
-  name-check-back = ap paddedCheck stored_bytes ∙ rw (stored-zeros, stored-front) (name-given s ok)
-
-  pub name_back : paddedName (name_of s).bytes ≡ name_of s
-  unfolding paddedName
-  name_back = ap paddedName stored_bytes ∙ rw (stored-zeros, stored-front)
+-- So is every name that is given.
+pub name_back : (s : List ℕ) {name : RegionName} → named s ≡ given name → padded name.bytes ≡ given name
+name_back s is =
+    let accepted = name-accepted s is in
+    simp accepted.1 (stored-back s accepted.0)

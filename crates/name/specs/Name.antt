@@ -2,8 +2,10 @@
 use Rattle.std.specs.Prelude.{Bool, false, cond, not, List, [], ◌∷◌, ◌++◌, ℕ, suc, ◌-◌, ltb, eqb, length, take, drop, replicate}
 use Rattle.codec.specs.Bytes.{allZero}
 use Rattle.codec.specs.Outcome.{Outcome, given, refusal}
+use Rattle.region.specs.Error.{errorNumber}
 use Rattle.name.specs.Utf8.{utf8}
 use Rattle.name.specs.declared.meta.RegionName.{RegionName}
+use Rattle.name.specs.declared.meta.Named.{Named}
 
 -- Where the first zero stands, or the length.
 abbrev pub zeroAt : List ℕ → ℕ
@@ -18,22 +20,20 @@ nameOk s =
     (cond (not (eqb (zeroAt s) (length s))) false
     (utf8 s)))
 
-abbrev pub nameRefused : Outcome (Unit {0})
+-- A name as it is stored.
+abbrev pub stored : List ℕ → RegionName
+stored s = record { bytes = s ++ replicate (24 - length s) 0; len = length s }
+
+abbrev pub nameRefused : Outcome RegionName
 nameRefused = refusal 35
 
-unfoldable pub nameCheck : List ℕ → Outcome (Unit {0})
-nameCheck s = cond (nameOk s) (given tt) nameRefused
-
--- The name of no bytes that goes with a refusal.
-unfoldable pub noName : RegionName
-noName = record { bytes = replicate 24 0; len = 0 }
-
-unfoldable pub name_of : List ℕ → RegionName
-name_of s = cond (nameOk s) (record { bytes = s ++ replicate (24 - length s) 0; len = length s }) noName
+unfoldable pub named : List ℕ → Outcome RegionName
+named s = cond (nameOk s) (given (stored s)) nameRefused
 
 -- The same of 24 stored bytes: the name ends at the first zero, and all behind it is zero.
-unfoldable pub paddedCheck : List ℕ → Outcome (Unit {0})
-paddedCheck raw = cond (allZero (drop (zeroAt raw) raw)) (nameCheck (take (zeroAt raw) raw)) nameRefused
+unfoldable pub padded : List ℕ → Outcome RegionName
+padded raw = cond (allZero (drop (zeroAt raw) raw)) (named (take (zeroAt raw) raw)) nameRefused
 
-unfoldable pub paddedName : List ℕ → RegionName
-paddedName raw = cond (allZero (drop (zeroAt raw) raw)) (name_of (take (zeroAt raw) raw)) noName
+abbrev pub namedOutcome : Named → Outcome RegionName
+namedOutcome (Named.Name name) = given name
+namedOutcome (Named.Refused error) = refusal (errorNumber error)

@@ -1,10 +1,9 @@
 // Region names.
 ghost use Rattle.std.specs.Prelude.{◌≡◌, ◌≤◌, length};
-ghost use Rattle.region.specs.Error.{checkOutcome};
-ghost use Rattle.name.specs.Name.{zeroAt, noName, nameOk, nameRefused, nameCheck, name_of, paddedCheck, paddedName};
+ghost use Rattle.name.specs.Name.{zeroAt, nameOk, named, padded, namedOutcome};
 
 use codec::codec::{Writer, Written};
-use region::meta::{Check, MetaError};
+use region::meta::MetaError;
 
 // A region name: 1 to 24 bytes of UTF-8, no NUL bytes; zeros behind them.
 #[derive(Clone, Copy)]
@@ -13,69 +12,43 @@ pub struct RegionName {
     pub len: u8,
 }
 
-// An enum can hold no array: the name stands beside the answer, of no bytes at a refusal.
+// A name, or that the bytes are none.
 #[derive(Clone, Copy)]
-pub struct Named {
-    pub answer: Check,
-    pub name: RegionName,
+pub enum Named {
+    Name(RegionName),
+    Refused(MetaError),
 }
 
 impl RegionName {
     // Validates and stores a name.
-    #[tactic(auto, unfolding(crate::specs::Name::nameCheck, crate::specs::Name::name_of))]
+    #[tactic(auto, unfolding(crate::specs::Name::named))]
     pub fn new(name: &[u8]) -> Named
-        ensures answer_value { checkOutcome result.answer ≡ nameCheck name.now }
-        ensures name_value { result.name ≡ name_of name.now }
+        ensures { namedOutcome result ≡ named name.now }
     {
         if !name_ok(name) {
-            return refused();
+            return Named::Refused(MetaError::Field(35));
         }
         let mut bytes = [0u8; 24];
         let w = Writer::new();
         let Written::Next(_) = w.bytes(&mut bytes, name) else {
-            return refused();
+            return Named::Refused(MetaError::Field(35));
         };
-        Named {
-            answer: Check::Pass,
-            name: RegionName {
-                bytes,
-                len: name.len() as u8,
-            },
-        }
+        Named::Name(RegionName {
+            bytes,
+            len: name.len() as u8,
+        })
     }
 
     // A name as it is stored: its bytes, and zeros up to 24.
-    #[tactic(auto, unfolding(crate::specs::Name::paddedCheck, crate::specs::Name::paddedName))]
+    #[tactic(auto, unfolding(crate::specs::Name::padded))]
     pub fn from_padded(raw: [u8; 24]) -> Named
-        ensures answer_value { checkOutcome result.answer ≡ paddedCheck raw }
-        ensures name_value { result.name ≡ paddedName raw }
+        ensures { namedOutcome result ≡ padded raw }
     {
         let len = zero_at(&raw);
         if !codec::bytes::all_zero(&raw[len..]) {
-            return refused();
+            return Named::Refused(MetaError::Field(35));
         }
         RegionName::new(&raw[..len])
-    }
-
-    // The name of no bytes that goes with a refusal.
-    #[tactic(auto, unfolding(crate::specs::Name::noName))]
-    pub fn none() -> Self
-        ensures { result ≡ noName }
-    {
-        RegionName {
-            bytes: [0u8; 24],
-            len: 0,
-        }
-    }
-}
-
-fn refused() -> Named
-    ensures answer_value { checkOutcome result.answer ≡ nameRefused }
-    ensures name_value { result.name ≡ noName }
-{
-    Named {
-        answer: Check::Fail(MetaError::Field(35)),
-        name: RegionName::none(),
     }
 }
 

@@ -6,14 +6,14 @@ use Rattle.slot.specs.Write.{encodeRefusal}
 use Rattle.candidate.specs.Pairs.{numbered, badPayload, blank, oppositeSlot, unsupported, pairCase}
 use Rattle.verdict.specs.Judge.{firstVerdicts, firstTally, cleanMark, storeRules, demoted, pairHeal, rowRules, verdicts, judgeRow}
 use Rattle.region.specs.Block.{clamp, blockSize, entriesPerPage}
-use Rattle.name.specs.Name.{nameOk, nameCheck}
+use Rattle.name.specs.Name.{nameOk, named}
 use Rattle.name.specs.Utf8.{utf8, utf8Octets}
 use Rattle.volume.specs.Volume.{table_end, fileCheck}
 use Rattle.page.specs.Read.{decodePage}
 use Rattle.starred.specs.Starred.{Starred, Capacities}
 
 pub starred : Starred
-unfolding crc32c finalRemainder remainder digest reversed entriesPerPage blockSize clamp encodeRefusal oppositeSlot blank badPayload numbered unsupported pairCase firstVerdicts firstTally cleanMark storeRules demoted pairHeal rowRules verdicts judgeRow decodePage le nameCheck nameOk utf8 utf8Octets table_end fileCheck
+unfolding crc32c finalRemainder remainder digest reversed entriesPerPage blockSize clamp encodeRefusal oppositeSlot blank badPayload numbered unsupported pairCase firstVerdicts firstTally cleanMark storeRules demoted pairHeal rowRules verdicts judgeRow decodePage le named nameOk utf8 utf8Octets table_end fileCheck
 starred =
     record {
       no_bytes = refl;

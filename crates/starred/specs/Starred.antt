@@ -18,7 +18,7 @@ use Rattle.verdict.specs.declared.verdict.SlotVerdict.{SlotVerdict}
 use Rattle.verdict.specs.declared.verdict.PairVerdict.{PairVerdict}
 use Rattle.verdict.specs.declared.verdict.Heal.{Heal}
 use Rattle.region.specs.Block.{entriesPerPage}
-use Rattle.name.specs.Name.{nameCheck}
+use Rattle.name.specs.Name.{named}
 use Rattle.volume.specs.Volume.{table_end, fileCheck}
 use Rattle.volume.specs.declared.meta2.VolumeMeta2.{VolumeMeta2}
 use Rattle.page.specs.Read.{decodePage, page}
@@ -120,8 +120,8 @@ pub record Starred : Type 0 where
   -- 24 zero bytes as page 0: accepted.
   pub empty-page : decodePage (replicate 24 0) 0 41 ≡ given (page (record { page_index = 0; next_seq = 0; count = 0 }))
   -- Name of 24 letters: accepted; C0 80 (hexadecimal): 35.
-  pub letters-24 : nameCheck (replicate 24 0x61) ≡ given tt
-  pub c0-80 : nameCheck (0xC0 ∷ 0x80 ∷ []) ≡ refusal 35
+  pub letters-24 : named (replicate 24 0x61) ≡ given (record { bytes = replicate 24 0x61; len = 24 })
+  pub c0-80 : named (0xC0 ∷ 0x80 ∷ []) ≡ refusal 35
   -- Both log2 12, one page: end 16,384; file of 16,383: 26.
   pub table-end : table_end volume ≡ given 16384
   pub file-16383 : fileCheck volume 16383 ≡ refusal 26

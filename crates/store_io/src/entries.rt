@@ -2,30 +2,24 @@
 ghost use Rattle.std.specs.Prelude.{◌≡◌};
 ghost use Rattle.codec.specs.Bytes.{putWhole};
 ghost use Rattle.region.specs.Error.{fitted};
-ghost use Rattle.name.specs.Name.{paddedName};
-ghost use Rattle.entry.specs.Entry.{entryRead, rawEntryOr, entryBytes, foundKind, foundKindName, reservedSpan};
+ghost use Rattle.entry.specs.Entry.{entryRead, entryBytes};
 ghost use Rattle.store_io.specs.Host.{outcomeRefusal, outcomeOr};
-ghost use Rattle.host_meta.specs.Metadata.{replaced, valuesOr, rawOf, limitsOf, rawValues, entryValues, checkedAt, checkedNameAt, restored, foundKindNumber, spanValues};
+ghost use Rattle.host_meta.specs.Metadata.{valuesOr, rawOf, limitsOf, rawValues, rawName, entryValues, entryName, entryNameLength, checkedAt, restored, decodedName, decodedLength, bothKind, bothName, bothLength, reservedValues};
 
-use entry::meta2::{Entry2Read, EntryLimits, RawEntry};
-use host_meta::entries::{
-    check_at, entry_values, kind_number, raw_values, span_values, stored_bytes,
-};
-use region::meta::{Check, MetaEncoded};
+use entry::meta2::{Entry2Read, EntryLimits, FoundName, NameAndKind, RawEntry, RawEntryRead};
+use host_meta::entries::{check_at, entry_values, raw_values, span_values, stored_bytes};
+use region::meta::MetaEncoded;
 
 // An entry's fields.
 #[unsafe(no_mangle)]
 pub extern "C" fn sio_read_entry(entry: &[u8], found: &mut [u64; 15], name: &mut [u8; 24]) -> u32
     ensures value { result ≡ outcomeRefusal (entryRead entry.now) }
-    ensures found_after { found.new ≡ replaced (rawValues (rawEntryOr entry.now)) found.old (entryRead entry.now) }
-    ensures name_after { name.new ≡ replaced (rawEntryOr entry.now).name name.old (entryRead entry.now) }
+    ensures found_after { found.new ≡ valuesOr rawValues found.old (entryRead entry.now) }
+    ensures name_after { name.new ≡ valuesOr rawName name.old (entryRead entry.now) }
 {
-    let read = RawEntry::read(entry);
-    let answer = read.answer;
-    match answer {
-        Check::Fail(error) => error.number() as u32,
-        Check::Pass => {
-            let raw = read.entry;
+    match RawEntry::read(entry) {
+        RawEntryRead::Refused(error) => error.number() as u32,
+        RawEntryRead::Entry(raw) => {
             let bytes = raw.name;
             *found = raw_values(raw);
             *name = bytes;
@@ -101,15 +95,13 @@ pub extern "C" fn sio_check_entry(
 ) -> u32
     ensures value { result ≡ outcomeRefusal (checkedAt entry.now (limitsOf log2_block table_end file_len page_meta_seq)) }
     ensures found_after { found.new ≡ valuesOr entryValues found.old (checkedAt entry.now (limitsOf log2_block table_end file_len page_meta_seq)) }
-    ensures name_after { name.new ≡ replaced (checkedNameAt entry.now (limitsOf log2_block table_end file_len page_meta_seq)).bytes name.old (checkedAt entry.now (limitsOf log2_block table_end file_len page_meta_seq)) }
-    ensures name_len_after { name_len.new ≡ replaced (checkedNameAt entry.now (limitsOf log2_block table_end file_len page_meta_seq)).len name_len.old (checkedAt entry.now (limitsOf log2_block table_end file_len page_meta_seq)) }
+    ensures name_after { name.new ≡ valuesOr entryName name.old (checkedAt entry.now (limitsOf log2_block table_end file_len page_meta_seq)) }
+    ensures name_len_after { name_len.new ≡ valuesOr entryNameLength name_len.old (checkedAt entry.now (limitsOf log2_block table_end file_len page_meta_seq)) }
 {
-    let checked = check_at(entry, log2_block, table_end, file_len, page_meta_seq);
-    let answer = checked.answer;
-    match answer {
+    match check_at(entry, log2_block, table_end, file_len, page_meta_seq) {
         Entry2Read::Refused(error) => error.number() as u32,
         Entry2Read::Entry(e) => {
-            let found_name = checked.name;
+            let found_name = e.name;
             let bytes = found_name.bytes;
             *found = entry_values(e);
             *name = bytes;
@@ -130,15 +122,12 @@ pub extern "C" fn sio_entry_to_raw(
     raw: &mut [u8; 96],
 ) -> u32
     ensures value { result ≡ outcomeRefusal (checkedAt entry.now (limitsOf log2_block table_end file_len page_meta_seq)) }
-    ensures raw_after { raw.new ≡ restored (checkedNameAt entry.now (limitsOf log2_block table_end file_len page_meta_seq)) raw.old (checkedAt entry.now (limitsOf log2_block table_end file_len page_meta_seq)) }
+    ensures raw_after { raw.new ≡ valuesOr restored raw.old (checkedAt entry.now (limitsOf log2_block table_end file_len page_meta_seq)) }
 {
-    let checked = check_at(entry, log2_block, table_end, file_len, page_meta_seq);
-    let answer = checked.answer;
-    match answer {
+    match check_at(entry, log2_block, table_end, file_len, page_meta_seq) {
         Entry2Read::Refused(error) => error.number() as u32,
         Entry2Read::Entry(e) => {
-            let name = checked.name;
-            *raw = stored_bytes(e.to_raw(name));
+            *raw = stored_bytes(e.to_raw());
             0
         }
     }
@@ -148,23 +137,25 @@ pub extern "C" fn sio_entry_to_raw(
 #[unsafe(no_mangle)]
 pub extern "C" fn sio_entry_name(entry: &[u8], name: &mut [u8; 24], name_len: &mut u8) -> u32
     ensures value { result ≡ outcomeRefusal (entryRead entry.now) }
-    ensures name_after { name.new ≡ replaced (paddedName (rawEntryOr entry.now).name).bytes name.old (entryRead entry.now) }
-    ensures name_len_after { name_len.new ≡ replaced (paddedName (rawEntryOr entry.now).name).len name_len.old (entryRead entry.now) }
+    ensures name_after { name.new ≡ valuesOr decodedName name.old (entryRead entry.now) }
+    ensures name_len_after { name_len.new ≡ valuesOr decodedLength name_len.old (entryRead entry.now) }
 {
-    let read = RawEntry::read(entry);
-    let answer = read.answer;
-    match answer {
-        Check::Fail(error) => error.number() as u32,
-        Check::Pass => {
-            let raw = read.entry;
-            let found = raw.name();
-            let found_name = found.name;
-            let bytes = found_name.bytes;
+    let raw = match RawEntry::read(entry) {
+        RawEntryRead::Refused(error) => return error.number() as u32,
+        RawEntryRead::Entry(raw) => raw,
+    };
+    match raw.name() {
+        FoundName::Nothing => {
+            *name = [0u8; 24];
+            *name_len = 0;
+        }
+        FoundName::Name(found) => {
+            let bytes = found.bytes;
             *name = bytes;
-            *name_len = found_name.len;
-            0
+            *name_len = found.len;
         }
     }
+    0
 }
 
 // The entry's name and kind where both decode.
@@ -176,26 +167,28 @@ pub extern "C" fn sio_entry_name_and_kind(
     name_len: &mut u8,
 ) -> u32
     ensures value { result ≡ outcomeRefusal (entryRead entry.now) }
-    ensures kind_after { kind.new ≡ replaced (foundKindNumber (foundKind (rawEntryOr entry.now))) kind.old (entryRead entry.now) }
-    ensures name_after { name.new ≡ replaced (foundKindName (rawEntryOr entry.now)).bytes name.old (entryRead entry.now) }
-    ensures name_len_after { name_len.new ≡ replaced (foundKindName (rawEntryOr entry.now)).len name_len.old (entryRead entry.now) }
+    ensures kind_after { kind.new ≡ valuesOr bothKind kind.old (entryRead entry.now) }
+    ensures name_after { name.new ≡ valuesOr bothName name.old (entryRead entry.now) }
+    ensures name_len_after { name_len.new ≡ valuesOr bothLength name_len.old (entryRead entry.now) }
 {
-    let read = RawEntry::read(entry);
-    let answer = read.answer;
-    match answer {
-        Check::Fail(error) => error.number() as u32,
-        Check::Pass => {
-            let raw = read.entry;
-            let found = raw.name_and_kind();
-            let found_kind = found.kind;
-            let found_name = found.name;
-            let bytes = found_name.bytes;
-            *kind = kind_number(found_kind);
+    let raw = match RawEntry::read(entry) {
+        RawEntryRead::Refused(error) => return error.number() as u32,
+        RawEntryRead::Entry(raw) => raw,
+    };
+    match raw.name_and_kind() {
+        NameAndKind::Nothing => {
+            *kind = 0;
+            *name = [0u8; 24];
+            *name_len = 0;
+        }
+        NameAndKind::Both(found, found_kind) => {
+            let bytes = found.bytes;
+            *kind = found_kind.to_u8();
             *name = bytes;
-            *name_len = found_name.len;
-            0
+            *name_len = found.len;
         }
     }
+    0
 }
 
 // The bytes that an entry keeps reserved.
@@ -208,14 +201,11 @@ pub extern "C" fn sio_reserved_span(
     span: &mut [u64; 2],
 ) -> u32
     ensures value { result ≡ outcomeRefusal (entryRead entry.now) }
-    ensures span_after { span.new ≡ replaced (spanValues (reservedSpan (rawEntryOr entry.now) (limitsOf log2_block table_end file_len 0))) span.old (entryRead entry.now) }
+    ensures span_after { span.new ≡ valuesOr (reservedValues (limitsOf log2_block table_end file_len 0)) span.old (entryRead entry.now) }
 {
-    let read = RawEntry::read(entry);
-    let answer = read.answer;
-    match answer {
-        Check::Fail(error) => error.number() as u32,
-        Check::Pass => {
-            let raw = read.entry;
+    match RawEntry::read(entry) {
+        RawEntryRead::Refused(error) => error.number() as u32,
+        RawEntryRead::Entry(raw) => {
             let limits = EntryLimits {
                 log2_block,
                 table_end,

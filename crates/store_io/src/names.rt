@@ -1,25 +1,21 @@
 // Region names for C hosts.
 ghost use Rattle.std.specs.Prelude.{◌≡◌};
-ghost use Rattle.name.specs.Name.{nameCheck, name_of, paddedCheck, paddedName};
+ghost use Rattle.name.specs.Name.{named, padded};
 ghost use Rattle.store_io.specs.Host.{outcomeRefusal};
-ghost use Rattle.host_meta.specs.Metadata.{replaced};
+ghost use Rattle.host_meta.specs.Metadata.{valuesOr, nameBytes, nameLength};
 
-use name::meta::RegionName;
-use region::meta::Check;
+use name::meta::{Named, RegionName};
 
 // Stores a name.
 #[unsafe(no_mangle)]
 pub extern "C" fn sio_region_name(name: &[u8], stored: &mut [u8; 24], stored_len: &mut u8) -> u32
-    ensures value { result ≡ outcomeRefusal (nameCheck name.now) }
-    ensures stored_after { stored.new ≡ replaced (name_of name.now).bytes stored.old (nameCheck name.now) }
-    ensures stored_len_after { stored_len.new ≡ replaced (name_of name.now).len stored_len.old (nameCheck name.now) }
+    ensures value { result ≡ outcomeRefusal (named name.now) }
+    ensures stored_after { stored.new ≡ valuesOr nameBytes stored.old (named name.now) }
+    ensures stored_len_after { stored_len.new ≡ valuesOr nameLength stored_len.old (named name.now) }
 {
-    let named = RegionName::new(name);
-    let answer = named.answer;
-    match answer {
-        Check::Fail(error) => error.number() as u32,
-        Check::Pass => {
-            let found = named.name;
+    match RegionName::new(name) {
+        Named::Refused(error) => error.number() as u32,
+        Named::Name(found) => {
             let bytes = found.bytes;
             *stored = bytes;
             *stored_len = found.len;
@@ -35,17 +31,14 @@ pub extern "C" fn sio_region_name_padded(
     stored: &mut [u8; 24],
     stored_len: &mut u8,
 ) -> u32
-    ensures value { result ≡ outcomeRefusal (paddedCheck raw.now) }
-    ensures stored_after { stored.new ≡ replaced (paddedName raw.now).bytes stored.old (paddedCheck raw.now) }
-    ensures stored_len_after { stored_len.new ≡ replaced (paddedName raw.now).len stored_len.old (paddedCheck raw.now) }
+    ensures value { result ≡ outcomeRefusal (padded raw.now) }
+    ensures stored_after { stored.new ≡ valuesOr nameBytes stored.old (padded raw.now) }
+    ensures stored_len_after { stored_len.new ≡ valuesOr nameLength stored_len.old (padded raw.now) }
 {
     let padded = *raw;
-    let named = RegionName::from_padded(padded);
-    let answer = named.answer;
-    match answer {
-        Check::Fail(error) => error.number() as u32,
-        Check::Pass => {
-            let found = named.name;
+    match RegionName::from_padded(padded) {
+        Named::Refused(error) => error.number() as u32,
+        Named::Name(found) => {
             let bytes = found.bytes;
             *stored = bytes;
             *stored_len = found.len;
