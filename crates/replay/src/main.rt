@@ -14,11 +14,12 @@
 // | wby | position, source, buffer | refusal, position, buffer |
 // | wze | position, count, buffer | refusal, position, buffer |
 #![tactic(auto)]
+
 use cases::hex::{Decoded, decode_field};
 use cases::line::{Fields, find, part, split};
 use cases::number::{length_at, narrow, size_at, u8_at, u16_at, u32_at, u64_at};
 use codec::codec::{Writer, Written};
-use libc::{STDIN_FILENO, STDOUT_FILENO};
+use std::io::{self, Read};
 use store_io::checksum::{sio_crc32c, sio_crc32c_append, sio_crc32c_gap};
 use store_io::cursor::{
     sio_read_array16, sio_read_array24, sio_read_bytes, sio_read_u8, sio_read_u16, sio_read_u32,
@@ -26,8 +27,14 @@ use store_io::cursor::{
     sio_write_zeros,
 };
 
-// Each name with a space behind it. The number of a name is its place here.
-const NAMES: [u8; 64] = *b"crc app gap ru1 ru2 ru4 ru8 run a16 a24 wu1 wu2 wu4 wu8 wby wze ";
+// The number of a name is its place here.
+const NAMES: [&str; 16] = [
+    "crc", "app", "gap", "ru1", "ru2", "ru4", "ru8", "run", "a16", "a24", "wu1", "wu2", "wu4",
+    "wu8", "wby", "wze",
+];
+
+// The longest list that is read.
+const LONGEST: usize = 65536;
 
 // What came of a case: where it is equal, the number of its name.
 #[derive(Clone, Copy)]
@@ -44,19 +51,17 @@ enum Packed {
     Unreadable,
 }
 
-fn main() {
-    let mut list = [0u8; 65536];
-    let n = io::read_full(STDIN_FILENO, &mut list);
-    // A buffer that is not full holds all of the list.
-    let mut next = [0u8; 1];
-    if n == 65536 && 0 < io::read_full(STDIN_FILENO, &mut next) {
-        io::write_all(STDOUT_FILENO, b"the list has more than 65536 bytes\n");
-        return;
+fn main(rt: HostRuntime) -> io::Result<()> {
+    let mut list = Vec::new(rt.alloc());
+    // A byte more tells a list that is too long.
+    rt.reader().take(LONGEST as u64 + 1).read_to_end(&mut list)?;
+    if LONGEST < list.len() {
+        return println!(rt; "the list has more than {LONGEST} bytes");
     }
-    replay(part(&list, 0, n));
+    replay(&rt, &list)
 }
 
-fn replay(list: &[u8]) {
+fn replay(rt: &impl Print, list: &[u8]) -> io::Result<()> {
     let mut counts = [0u64; 16];
     let mut equal: u64 = 0;
     let mut at = 0;
@@ -64,66 +69,41 @@ fn replay(list: &[u8]) {
         let end = find(list, at, b'\n');
         let line = part(list, at, end);
         if list.len() <= end {
-            stopped(equal + 1, b" cannot be read: ", line);
-            return;
+            return stopped(rt, equal + 1, "cannot be read", line);
         }
-        let outcome = case(line);
-        let Outcome::Equal(name) = outcome else {
-            unequal(outcome, equal + 1, line);
-            return;
-        };
-        counted(&mut counts, name);
+        match case(line) {
+            Outcome::Equal(name) => counted(&mut counts, name),
+            Outcome::Different => return stopped(rt, equal + 1, "differs", line),
+            Outcome::Unreadable => return stopped(rt, equal + 1, "cannot be read", line),
+        }
         equal += 1;
         at = end + 1;
     }
-    summary(&counts, equal);
+    summary(rt, &counts, equal)
 }
 
 // No list has so many lines that a count wraps.
 fn counted(counts: &mut [u64; 16], name: usize) {
     if name < 16 {
-        counts[name] = std::num::wrapping_add_u64(counts[name], 1);
+        counts[name] = counts[name].wrapping_add(1);
     }
 }
 
-fn unequal(outcome: Outcome, number: u64, line: &[u8]) {
-    match outcome {
-        Outcome::Equal(_) => {}
-        Outcome::Different => stopped(number, b" differs: ", line),
-        Outcome::Unreadable => stopped(number, b" cannot be read: ", line),
-    }
+fn stopped(rt: &impl Print, number: u64, what: &str, line: &[u8]) -> io::Result<()> {
+    print!(rt; "line {number} {what}: ")?;
+    rt.write_all(line)?;
+    rt.write_all(b"\n")
 }
 
-fn stopped(number: u64, what: &[u8], line: &[u8]) {
-    io::write_all(STDOUT_FILENO, b"line ");
-    io::print_decimal(STDOUT_FILENO, number);
-    io::write_all(STDOUT_FILENO, what);
-    io::write_all(STDOUT_FILENO, line);
-    io::write_all(STDOUT_FILENO, b"\n");
+fn summary(rt: &impl Print, counts: &[u64; 16], equal: u64) -> io::Result<()> {
+    for (name, count) in NAMES.iter().zip(counts) {
+        println!(rt; "{name} {count} equal")?;
+    }
+    println!(rt; "{equal} cases, all equal")
 }
 
-fn summary(counts: &[u64; 16], equal: u64) {
-    let mut k = 0;
-    while k < 16 {
-        io::write_all(STDOUT_FILENO, part(&NAMES, 4 * k, 4 * k + 4));
-        io::print_decimal(STDOUT_FILENO, counts[k]);
-        io::write_all(STDOUT_FILENO, b" equal\n");
-        k += 1;
-    }
-    io::print_decimal(STDOUT_FILENO, equal);
-    io::write_all(STDOUT_FILENO, b" cases, all equal\n");
-}
-
-// The number of a name, 16 for any other text.
-fn number_of(name: &[u8]) -> usize {
-    let mut k = 0;
-    while k < 16 {
-        if check::same(name, part(&NAMES, 4 * k, 4 * k + 3)) {
-            return k;
-        }
-        k += 1;
-    }
-    16
+fn number_of(name: &[u8]) -> Option<usize> {
+    NAMES.iter().position(|known| known.as_bytes() == name)
 }
 
 fn case(line: &[u8]) -> Outcome {
@@ -136,7 +116,9 @@ fn case(line: &[u8]) -> Outcome {
     else {
         return Outcome::Unreadable;
     };
-    let name = number_of(part(line, 0, name_end));
+    let Some(name) = number_of(part(line, 0, name_end)) else {
+        return Outcome::Unreadable;
+    };
     let mut arguments = [0u8; 1024];
     let Decoded::Bytes(given) = decode_field(part(line, input, input_end), &mut arguments) else {
         return Outcome::Unreadable;
@@ -149,7 +131,7 @@ fn case(line: &[u8]) -> Outcome {
     let Packed::Bytes(finds) = answer_to(name, &mut arguments, given, &mut found) else {
         return Outcome::Unreadable;
     };
-    if check::same(part(&found, 0, finds), part(&wanted, 0, wants)) {
+    if part(&found, 0, finds) == part(&wanted, 0, wants) {
         return Outcome::Equal(name);
     }
     Outcome::Different
@@ -306,7 +288,7 @@ fn a16(input: &[u8], out: &mut [u8]) -> Packed {
     if refusal != 0 {
         return Packed::Bytes(next.position());
     }
-    put16(next, out, &value)
+    ended(next.bytes(out, &value))
 }
 
 fn a24(input: &[u8], out: &mut [u8]) -> Packed {
@@ -322,16 +304,7 @@ fn a24(input: &[u8], out: &mut [u8]) -> Packed {
     if refusal != 0 {
         return Packed::Bytes(next.position());
     }
-    put24(next, out, &value)
-}
-
-// The whole of an array.
-fn put16(next: Writer, out: &mut [u8], value: &[u8; 16]) -> Packed {
-    ended(next.bytes(out, value))
-}
-
-fn put24(next: Writer, out: &mut [u8], value: &[u8; 24]) -> Packed {
-    ended(next.bytes(out, value))
+    ended(next.bytes(out, &value))
 }
 
 fn wu1(input: &mut [u8], out: &mut [u8]) -> Packed {
