@@ -20,18 +20,22 @@
 //
 // A refusal that changes what it was lent is packed as an answer, so that the case differs.
 #![tactic(auto)]
+
 ghost use Rattle.std.specs.Prelude.{◌≤◌, length};
 
 use cases::hex::{Decoded, decode_field};
 use cases::line::{Fields, find, part, split};
 use cases::number::{length_at, narrow, u8_at, u16_at, u32_at, u64_at};
 use codec::codec::{Writer, Written};
-use libc::{STDIN_FILENO, STDOUT_FILENO};
+use std::io::{self, Read};
 use store_io::pairs::sio_decide;
 use store_io::slots::{sio_encode, sio_frame_slot, sio_header_facts, sio_validate};
 
-// Each name with a space behind it. The number of a name is its place here.
-const NAMES: [u8; 20] = *b"enc val fac frm dec ";
+// The number of a name is its place here.
+const NAMES: [&str; 5] = ["enc", "val", "fac", "frm", "dec"];
+
+// The longest list that is read.
+const LONGEST: usize = 65536;
 
 // What came of a case: where it is equal, the number of its name.
 #[derive(Clone, Copy)]
@@ -49,19 +53,17 @@ enum Packed {
     Unreadable,
 }
 
-fn main() {
-    let mut list = [0u8; 65536];
-    let n = io::read_full(STDIN_FILENO, &mut list);
-    // A buffer that is not full holds all of the list.
-    let mut next = [0u8; 1];
-    if n == 65536 && 0 < io::read_full(STDIN_FILENO, &mut next) {
-        io::write_all(STDOUT_FILENO, b"the list has more than 65536 bytes\n");
-        return;
+fn main(rt: HostRuntime) -> io::Result<()> {
+    let mut list = Vec::new(rt.alloc());
+    // A byte more tells a list that is too long.
+    rt.reader().take(LONGEST as u64 + 1).read_to_end(&mut list)?;
+    if LONGEST < list.len() {
+        return println!(rt; "the list has more than {LONGEST} bytes");
     }
-    replay(part(&list, 0, n));
+    replay(&rt, &list)
 }
 
-fn replay(list: &[u8]) {
+fn replay(rt: &impl Print, list: &[u8]) -> io::Result<()> {
     let mut counts = [0u64; 5];
     let mut equal: u64 = 0;
     let mut at = 0;
@@ -69,66 +71,41 @@ fn replay(list: &[u8]) {
         let end = find(list, at, b'\n');
         let line = part(list, at, end);
         if list.len() <= end {
-            stopped(equal + 1, b" cannot be read: ", line);
-            return;
+            return stopped(rt, equal + 1, "cannot be read", line);
         }
-        let outcome = case(line);
-        let Outcome::Equal(name) = outcome else {
-            unequal(outcome, equal + 1, line);
-            return;
-        };
-        counted(&mut counts, name);
+        match case(line) {
+            Outcome::Equal(name) => counted(&mut counts, name),
+            Outcome::Different => return stopped(rt, equal + 1, "differs", line),
+            Outcome::Unreadable => return stopped(rt, equal + 1, "cannot be read", line),
+        }
         equal += 1;
         at = end + 1;
     }
-    summary(&counts, equal);
+    summary(rt, &counts, equal)
 }
 
 // No list has so many lines that a count wraps.
 fn counted(counts: &mut [u64; 5], name: usize) {
     if name < 5 {
-        counts[name] = std::num::wrapping_add_u64(counts[name], 1);
+        counts[name] = counts[name].wrapping_add(1);
     }
 }
 
-fn unequal(outcome: Outcome, number: u64, line: &[u8]) {
-    match outcome {
-        Outcome::Equal(_) => {}
-        Outcome::Different => stopped(number, b" differs: ", line),
-        Outcome::Unreadable => stopped(number, b" cannot be read: ", line),
-    }
+fn stopped(rt: &impl Print, number: u64, what: &str, line: &[u8]) -> io::Result<()> {
+    print!(rt; "line {number} {what}: ")?;
+    rt.write_all(line)?;
+    rt.write_all(b"\n")
 }
 
-fn stopped(number: u64, what: &[u8], line: &[u8]) {
-    io::write_all(STDOUT_FILENO, b"line ");
-    io::print_decimal(STDOUT_FILENO, number);
-    io::write_all(STDOUT_FILENO, what);
-    io::write_all(STDOUT_FILENO, line);
-    io::write_all(STDOUT_FILENO, b"\n");
+fn summary(rt: &impl Print, counts: &[u64; 5], equal: u64) -> io::Result<()> {
+    for (name, count) in NAMES.iter().zip(counts) {
+        println!(rt; "{name} {count} equal")?;
+    }
+    println!(rt; "{equal} cases, all equal")
 }
 
-fn summary(counts: &[u64; 5], equal: u64) {
-    let mut k = 0;
-    while k < 5 {
-        io::write_all(STDOUT_FILENO, part(&NAMES, 4 * k, 4 * k + 4));
-        io::print_decimal(STDOUT_FILENO, counts[k]);
-        io::write_all(STDOUT_FILENO, b" equal\n");
-        k += 1;
-    }
-    io::print_decimal(STDOUT_FILENO, equal);
-    io::write_all(STDOUT_FILENO, b" cases, all equal\n");
-}
-
-// The number of a name, 5 for any other text.
-fn number_of(name: &[u8]) -> usize {
-    let mut k = 0;
-    while k < 5 {
-        if check::same(name, part(&NAMES, 4 * k, 4 * k + 3)) {
-            return k;
-        }
-        k += 1;
-    }
-    5
+fn number_of(name: &[u8]) -> Option<usize> {
+    NAMES.iter().position(|known| known.as_bytes() == name)
 }
 
 fn case(line: &[u8]) -> Outcome {
@@ -141,7 +118,9 @@ fn case(line: &[u8]) -> Outcome {
     else {
         return Outcome::Unreadable;
     };
-    let name = number_of(part(line, 0, name_end));
+    let Some(name) = number_of(part(line, 0, name_end)) else {
+        return Outcome::Unreadable;
+    };
     let mut arguments = [0u8; 1024];
     let Decoded::Bytes(given) = decode_field(part(line, input, input_end), &mut arguments) else {
         return Outcome::Unreadable;
@@ -154,7 +133,7 @@ fn case(line: &[u8]) -> Outcome {
     let Packed::Bytes(finds) = answer(name, part(&arguments, 0, given), &mut found) else {
         return Outcome::Unreadable;
     };
-    if check::same(part(&found, 0, finds), part(&wanted, 0, wants)) {
+    if part(&found, 0, finds) == part(&wanted, 0, wants) {
         return Outcome::Equal(name);
     }
     Outcome::Different
@@ -189,7 +168,7 @@ fn enc(input: &[u8], out: &mut [u8]) -> Packed {
     };
     if refusal != 0 {
         if header_crc32c == 0xffff_ffff {
-            if check::same(&slot, &before) {
+            if slot == before {
                 return Packed::Bytes(refusal_end.position());
             }
         }
@@ -235,14 +214,10 @@ fn put_slot(next: Writer, out: &mut [u8], slot: &[u8]) -> Packed {
 }
 
 fn used(slot: &[u8]) -> usize {
-    let mut n = slot.len();
-    while 0 < n {
-        if slot[n - 1] != 0 {
-            return n;
-        }
-        n -= 1;
+    match slot.iter().rposition(|byte| *byte != 0) {
+        Some(last) => last + 1,
+        None => 0,
     }
-    0
 }
 
 fn val(input: &[u8], out: &mut [u8]) -> Packed {
@@ -263,7 +238,7 @@ fn val(input: &[u8], out: &mut [u8]) -> Packed {
         u32_at(input, 39),
         &mut found,
     );
-    put9(out, status, &found)
+    put_numbers(out, status, &found)
 }
 
 fn fac(input: &[u8], out: &mut [u8]) -> Packed {
@@ -284,7 +259,7 @@ fn fac(input: &[u8], out: &mut [u8]) -> Packed {
         u32_at(input, 39),
         &mut found,
     );
-    put4(out, facts, &found)
+    put_numbers(out, facts, &found)
 }
 
 fn frm(input: &[u8], out: &mut [u8]) -> Packed {
@@ -305,7 +280,7 @@ fn frm(input: &[u8], out: &mut [u8]) -> Packed {
         u32_at(input, 39),
         &mut bytes,
     );
-    put26(out, status, &bytes)
+    put_bytes(out, status, &bytes)
 }
 
 fn dec(input: &[u8], out: &mut [u8]) -> Packed {
@@ -330,7 +305,7 @@ fn dec(input: &[u8], out: &mut [u8]) -> Packed {
 fn put_report(out: &mut [u8], refusal: u32, report: &[u8; 5]) -> Packed {
     if refusal != 0 {
         let before = [255u8; 5];
-        if check::same(report, &before) {
+        if *report == before {
             return ended(Writer::new().u8(out, narrow(refusal)));
         }
     }
@@ -355,31 +330,16 @@ fn slot_behind_place(input: &[u8], slot: &mut [u8]) -> Packed {
     Packed::Bytes(length)
 }
 
-// The whole of an array behind a number.
-fn put9(out: &mut [u8], number: u32, found: &[u64; 9]) -> Packed {
-    put_numbers(out, number, found)
-}
-
-fn put4(out: &mut [u8], number: u32, found: &[u64; 4]) -> Packed {
-    put_numbers(out, number, found)
-}
-
-fn put26(out: &mut [u8], number: u32, bytes: &[u8; 26]) -> Packed {
-    put_bytes(out, number, bytes)
-}
-
 fn put_numbers(out: &mut [u8], number: u32, found: &[u64]) -> Packed {
     let Written::Next(begun) = Writer::new().u8(out, narrow(number)) else {
         return Packed::Unreadable;
     };
     let mut next = begun;
-    let mut k = 0;
-    while k < found.len() {
-        let Written::Next(value_end) = next.u64(out, found[k]) else {
+    for value in found {
+        let Written::Next(value_end) = next.u64(out, *value) else {
             return Packed::Unreadable;
         };
         next = value_end;
-        k += 1;
     }
     Packed::Bytes(next.position())
 }
