@@ -3,7 +3,7 @@
 use Rattle.std.proofs.Common.{◌≡◌, refl, ap, Bool, true, false, cond, not, List, [], ◌∷◌, ℕ, suc, ◌*◌, ◌≤◌, ◌<◌, arith, eq-eqb, ne_eqb, length, take}
 use Rattle.codec.specs.Bytes.{AllBytes, le32, same, allZero, flag}
 use Rattle.codec.proofs.CursorLaws.{le-lt}
-use Rattle.slot.specs.Status.{code, validInfo}
+use Rattle.slot.specs.Status.{validInfo}
 use Rattle.slot.specs.Read.{magic, header, info, lengthOk, parseHeader, payloadOk, status as statusBy, validate, facts, headerFacts}
 use Rattle.slot.specs.declared.slot.Expect.{Expect}
 use Rattle.slot.specs.declared.slot.SlotInfo.{SlotInfo}
@@ -19,7 +19,7 @@ use Rattle.judge_frames.specs.Frames.{verdictWidth, judged, judgedBytes}
 use Rattle.verdict.specs.declared.verdict.Judged.{Judged}
 use Rattle.judge_frames.proofs.FilledLaws.{Filled, AllFilled, filled-judged, filled-bytes}
 use Rattle.cut.specs.Store.{Every, Slot, Pair, status, numbersGiven, checksumGiven, filled, slotPart, pairPart, parts, frames, Typed}
-use Rattle.cut.proofs.StatusLaws.{Passed, parse-passed, validate-cases}
+use Rattle.cut.proofs.StatusLaws.{parse-passed, validate-cases}
 
 -- ---- what is read from bytes fits
 

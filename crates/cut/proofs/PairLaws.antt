@@ -1,7 +1,7 @@
 -- One pair, by what its slots are: its verdict, its winner, the record that is read back and its last written record. By the winner's
 -- index, for each look of the slot beside it.
 use Rattle.std.proofs.Common.{◌≡◌, refl, sym, ap, subst, ◌∙◌, Bool, true, false, cond, List, ℕ, ◌+◌, ◌≤◌, ◌<◌, arith, eq-eqb, ne_eqb, lt-ltb, le-ltb, leb, eqb}
-use Rattle.slot.specs.Status.{other, code, validInfo}
+use Rattle.slot.specs.Status.{other, validInfo}
 use Rattle.slot.specs.Read.{payload, headerFacts}
 use Rattle.slot.specs.declared.slot.SlotIndex.{SlotIndex}
 use Rattle.slot.specs.declared.slot.SlotInfo.{SlotInfo}

@@ -16,19 +16,23 @@
 //
 // A refusal of the judge over frames that changes what it was lent is packed as an answer, so that the case differs.
 #![tactic(auto)]
+
 ghost use Rattle.std.specs.Prelude.{◌≤◌, length};
 
 use cases::hex::{Decoded, decode_field};
 use cases::line::{Fields, find, part, split};
 use cases::number::{length_at, narrow, u8_at};
 use codec::codec::{Writer, Written};
-use libc::{STDIN_FILENO, STDOUT_FILENO};
 use row::judge_row;
+use std::io::{self, Read};
 use store_io::judging::sio_judge;
 use verdict::verdict::{Heal, Judged, Judgement};
 
-// Each name with a space behind it. The number of a name is its place here.
-const NAMES: [u8; 12] = *b"jdg frm row ";
+// The number of a name is its place here.
+const NAMES: [&str; 3] = ["jdg", "frm", "row"];
+
+// The longest list that is read.
+const LONGEST: usize = 65536;
 
 const FRAMES: usize = 1;
 
@@ -49,19 +53,17 @@ enum Packed {
     Unreadable,
 }
 
-fn main() {
-    let mut list = [0u8; 65536];
-    let n = io::read_full(STDIN_FILENO, &mut list);
-    // A buffer that is not full holds all of the list.
-    let mut next = [0u8; 1];
-    if n == 65536 && 0 < io::read_full(STDIN_FILENO, &mut next) {
-        io::write_all(STDOUT_FILENO, b"the list has more than 65536 bytes\n");
-        return;
+fn main(rt: HostRuntime) -> io::Result<()> {
+    let mut list = Vec::new(rt.alloc());
+    // A byte more tells a list that is too long.
+    rt.reader().take(LONGEST as u64 + 1).read_to_end(&mut list)?;
+    if LONGEST < list.len() {
+        return println!(rt; "the list has more than {LONGEST} bytes");
     }
-    replay(part(&list, 0, n));
+    replay(&rt, &list)
 }
 
-fn replay(list: &[u8]) {
+fn replay(rt: &impl Print, list: &[u8]) -> io::Result<()> {
     let mut counts = [0u64; 3];
     let mut equal: u64 = 0;
     let mut at = 0;
@@ -69,66 +71,41 @@ fn replay(list: &[u8]) {
         let end = find(list, at, b'\n');
         let line = part(list, at, end);
         if list.len() <= end {
-            stopped(equal + 1, b" cannot be read: ", line);
-            return;
+            return stopped(rt, equal + 1, "cannot be read", line);
         }
-        let outcome = case(line);
-        let Outcome::Equal(name) = outcome else {
-            unequal(outcome, equal + 1, line);
-            return;
-        };
-        counted(&mut counts, name);
+        match case(line) {
+            Outcome::Equal(name) => counted(&mut counts, name),
+            Outcome::Different => return stopped(rt, equal + 1, "differs", line),
+            Outcome::Unreadable => return stopped(rt, equal + 1, "cannot be read", line),
+        }
         equal += 1;
         at = end + 1;
     }
-    summary(&counts, equal);
+    summary(rt, &counts, equal)
 }
 
 // No list has so many lines that a count wraps.
 fn counted(counts: &mut [u64; 3], name: usize) {
     if name < 3 {
-        counts[name] = std::num::wrapping_add_u64(counts[name], 1);
+        counts[name] = counts[name].wrapping_add(1);
     }
 }
 
-fn unequal(outcome: Outcome, number: u64, line: &[u8]) {
-    match outcome {
-        Outcome::Equal(_) => {}
-        Outcome::Different => stopped(number, b" differs: ", line),
-        Outcome::Unreadable => stopped(number, b" cannot be read: ", line),
-    }
+fn stopped(rt: &impl Print, number: u64, what: &str, line: &[u8]) -> io::Result<()> {
+    print!(rt; "line {number} {what}: ")?;
+    rt.write_all(line)?;
+    rt.write_all(b"\n")
 }
 
-fn stopped(number: u64, what: &[u8], line: &[u8]) {
-    io::write_all(STDOUT_FILENO, b"line ");
-    io::print_decimal(STDOUT_FILENO, number);
-    io::write_all(STDOUT_FILENO, what);
-    io::write_all(STDOUT_FILENO, line);
-    io::write_all(STDOUT_FILENO, b"\n");
+fn summary(rt: &impl Print, counts: &[u64; 3], equal: u64) -> io::Result<()> {
+    for (name, count) in NAMES.iter().zip(counts) {
+        println!(rt; "{name} {count} equal")?;
+    }
+    println!(rt; "{equal} cases, all equal")
 }
 
-fn summary(counts: &[u64; 3], equal: u64) {
-    let mut k = 0;
-    while k < 3 {
-        io::write_all(STDOUT_FILENO, part(&NAMES, 4 * k, 4 * k + 4));
-        io::print_decimal(STDOUT_FILENO, counts[k]);
-        io::write_all(STDOUT_FILENO, b" equal\n");
-        k += 1;
-    }
-    io::print_decimal(STDOUT_FILENO, equal);
-    io::write_all(STDOUT_FILENO, b" cases, all equal\n");
-}
-
-// The number of a name, 3 for any other text.
-fn number_of(name: &[u8]) -> usize {
-    let mut k = 0;
-    while k < 3 {
-        if check::same(name, part(&NAMES, 4 * k, 4 * k + 3)) {
-            return k;
-        }
-        k += 1;
-    }
-    3
+fn number_of(name: &[u8]) -> Option<usize> {
+    NAMES.iter().position(|known| known.as_bytes() == name)
 }
 
 fn case(line: &[u8]) -> Outcome {
@@ -141,7 +118,9 @@ fn case(line: &[u8]) -> Outcome {
     else {
         return Outcome::Unreadable;
     };
-    let name = number_of(part(line, 0, name_end));
+    let Some(name) = number_of(part(line, 0, name_end)) else {
+        return Outcome::Unreadable;
+    };
     let mut arguments = [0u8; 512];
     let Decoded::Bytes(given) = decode_field(part(line, input, input_end), &mut arguments) else {
         return Outcome::Unreadable;
@@ -163,7 +142,7 @@ fn judged(name: usize, input: &[u8], wanted: &[u8]) -> Outcome {
         let Packed::Bytes(finds) = over_frames(input, &mut found) else {
             return Outcome::Unreadable;
         };
-        if !check::same(part(&found, 0, finds), wanted) {
+        if part(&found, 0, finds) != wanted {
             return Outcome::Different;
         }
     }
@@ -172,7 +151,7 @@ fn judged(name: usize, input: &[u8], wanted: &[u8]) -> Outcome {
         let Packed::Bytes(finds) = over_row(input, &mut found) else {
             return Outcome::Unreadable;
         };
-        if !check::same(part(&found, 0, finds), wanted) {
+        if part(&found, 0, finds) != wanted {
             return Outcome::Different;
         }
     }
@@ -194,8 +173,8 @@ fn over_frames(input: &[u8], out: &mut [u8]) -> Packed {
     let mut judgement = [255u64; 5];
     let refusal = lent(input, &mut verdicts, length, &mut judgement);
     if refusal != 0 {
-        if check::same(&verdicts, &before) {
-            if untouched(&judgement) {
+        if verdicts == before {
+            if judgement == [255u64; 5] {
                 return put_refusal(out, narrow(refusal), part(&before, 0, 0));
             }
         }
@@ -213,17 +192,6 @@ fn lent(input: &[u8], buffer: &mut [u8], size: usize, judgement: &mut [u64; 5]) 
         &mut buffer[0..size],
         judgement,
     )
-}
-
-fn untouched(judgement: &[u64; 5]) -> bool {
-    let mut k = 0;
-    while k < 5 {
-        if judgement[k] != 255 {
-            return false;
-        }
-        k += 1;
-    }
-    true
 }
 
 // ---- the judge over the row
@@ -245,13 +213,8 @@ fn over_row(input: &[u8], out: &mut [u8]) -> Packed {
     let verdicts = answer.verdicts;
     match judged {
         Judged::Refusal(number) => put_refusal(out, number, part(&verdicts, 0, length)),
-        Judged::Done(j) => put_done(out, numbers(j), part(&verdicts, 0, length)),
+        Judged::Done(j) => put_judged(out, 0, &numbers(j), part(&verdicts, 0, length)),
     }
-}
-
-fn put_done(out: &mut [u8], judgement: [u64; 5], verdicts: &[u8]) -> Packed {
-    let numbers = judgement;
-    put_judged(out, 0, &numbers, verdicts)
 }
 
 fn numbers(j: Judgement) -> [u64; 5] {
@@ -293,13 +256,11 @@ fn put_judged(out: &mut [u8], refusal: u8, judgement: &[u64; 5], verdicts: &[u8]
         return Packed::Unreadable;
     };
     let mut next = begun;
-    let mut k = 0;
-    while k < 5 {
-        let Written::Next(value_end) = next.u64(out, judgement[k]) else {
+    for number in judgement {
+        let Written::Next(number_end) = next.u64(out, *number) else {
             return Packed::Unreadable;
         };
-        next = value_end;
-        k += 1;
+        next = number_end;
     }
     ended(next.bytes(out, verdicts))
 }

@@ -1,5 +1,6 @@
 // What C hosts call: functions on byte slices and numbers, declared in include/store_io.h.
 #![tactic(auto)]
+
 pub mod checksum;
 pub mod cursor;
 pub mod entries;

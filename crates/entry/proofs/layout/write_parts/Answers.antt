@@ -1,7 +1,6 @@
 -- `write_parts` meets its contract: the first 40 bytes come back as the entry's front, the 56 behind them as its places, and in fewer than 96
 -- there is no room for them.
-use Rattle.std.proofs.Common.{◌≡◌, refl, sym, ap₂, ◌∙◌, List, ℕ, ◌++◌, ◌≤◌, rules, arith, length, take, drop, length-take-le}
-use native.Mathlib.Nat.{le_of_eq}
+use Rattle.std.proofs.Common.{◌≡◌, refl, sym, ap₂, ◌∙◌, List, ℕ, ◌++◌, ◌≤◌, rules, arith, length, take, drop, length-take-le, le_of_eq}
 use borrow.Rule.Slice.PartMut.{put_mid}
 use Rattle.codec.proofs.Steps.{answers}
 use Rattle.codec.proofs.CursorLaws.{two-parts}
