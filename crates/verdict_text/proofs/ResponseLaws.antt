@@ -32,11 +32,6 @@ lines-unmarked s unmarked = go (lines s) refl
             absurd (omega (arith, mark-found s mark frames cut marked))
         by-mark false test = refl
 
--- What is not longer is held whole, and is at most so long.
-pub held_whole : (held : ℕ) (more : Bool) → longer held more ≡ false → held ≤ 65536
-held_whole held true fits = let never : ◌≡◌ {A = ℕ} 0 1 = cc in absurd (omega arith)
-held_whole held false fits = ltb-false 65536 held fits
-
 module _ (s : List ℕ) (more : Bool) where
   pub text-long : longer (length s) more ≡ true → responseText s more ≡ refusalLine 11
   unfolding responseText
