@@ -29,21 +29,20 @@
  * Stack. So many bytes a call takes at most, its arguments on the stack and the return address included:
  *
  *      64   sio_remaining sio_read_u8 sio_read_u16 sio_read_u32 sio_read_u64 sio_read_bytes sio_read_array16
- *           sio_read_array24 sio_write_u8 sio_write_u16 sio_write_u32 sio_write_u64 sio_write_bytes sio_write_zeros
- *           sio_volume_decode sio_volume_base_decode sio_volume_base_encode sio_entries_per_page sio_table_end
- *           sio_check_file_len sio_encode_page sio_reserved_span
- *     128   sio_volume_encode sio_read_entry
- *     192   sio_region_name sio_decode_page sio_write_entry
- *     320   sio_region_name_padded sio_entry_name sio_entry_name_and_kind
- *     448   sio_decide sio_judge
- *     640   sio_check_entry sio_entry_to_raw
- *    1088   sio_crc32c sio_crc32c_append
- *    1152   sio_crc32c_gap
- *    1472   sio_encode
- *    1600   sio_header_facts
- *    1728   sio_validate
- *    1792   sio_frame_slot
- *    2304   sio_winner_payload
+ *           sio_read_array24 sio_write_u8 sio_write_u16 sio_write_u32 sio_write_u64 sio_write_bytes sio_volume_decode
+ *           sio_volume_base_decode sio_volume_base_encode sio_entries_per_page sio_table_end sio_check_file_len
+ *           sio_reserved_span sio_crc32c sio_crc32c_append
+ *     128   sio_write_zeros sio_encode_page sio_volume_encode sio_read_entry sio_region_name sio_decode_page
+ *           sio_crc32c_gap
+ *     192   sio_write_entry
+ *     256   sio_region_name_padded sio_encode
+ *     384   sio_entry_name sio_entry_name_and_kind
+ *     448   sio_header_facts
+ *     512   sio_judge
+ *     576   sio_validate
+ *     640   sio_decide sio_entry_to_raw sio_frame_slot
+ *     704   sio_check_entry
+ *     960   sio_winner_payload
  *
  * Measured on x86-64 Linux by examples/stack.c: the stack below a call is filled with a byte, and the lowest byte that changes
  * is looked for; then 16 are added and the sum is rounded up to 64. Largest and smallest slots and pages take the same. No
