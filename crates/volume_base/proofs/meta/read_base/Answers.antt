@@ -8,6 +8,7 @@ use Rattle.volume_base.specs.Base.{baseRead}
 use Rattle.volume_base.specs.declared.meta.RawVolumeMeta.{RawVolumeMeta}
 use Rattle.volume_base.specs.declared.meta.RawVolumeMetaRead.{RawVolumeMetaRead}
 use Rattle.volume_base.proofs.meta.read_base.Goals as goal
+use Rattle.volume_base.proofs.meta.read_base.Goals.{In-Value, In-Value-u8, In-Value-u16, In-Value-u32, In-Value-u64, In-Value-u64-2, In-Value-u64-3, In-Value-u64-4}
 
 -- The fields of the numbers that the reads give, in their order.
 abbrev base_of : List ℕ → RawVolumeMeta
@@ -42,87 +43,62 @@ cut w row says within = too_short base-cut (reads w row says) refl within
 
 -- ---- the reads
 
+abbrev log2_block_size : (c : In-Value) → ReadTo c.args.bytes.now c.in-Value.r.pos
+log2_block_size c = next_byte (start 0 c.new-r.ensures) c.in-Value.ensures
+
+abbrev log2_table_slot_size : (c : In-Value-u8) → ReadTo c.args.bytes.now c.in-Value-u8.r.pos
+log2_table_slot_size c = next_byte (log2_block_size (goal.at.In-Value-u8 c).In-Value) c.in-Value-u8.ensures
+
+abbrev device_index : (c : In-Value-u16) → ReadTo c.args.bytes.now c.in-Value-u16.r.pos
+device_index c = next 2 (log2_table_slot_size (goal.at.In-Value-u16 c).In-Value-u8) c.in-Value-u16.ensures
+
+abbrev reserved0 : (c : In-Value-u32) → ReadTo c.args.bytes.now c.in-Value-u32.r.pos
+reserved0 c = next 4 (device_index (goal.at.In-Value-u32 c).In-Value-u16) c.in-Value-u32.ensures
+
+abbrev owner_generation : (c : In-Value-u64) → ReadTo c.args.bytes.now c.in-Value-u64.r.pos
+owner_generation c = next 8 (reserved0 (goal.at.In-Value-u64 c).In-Value-u32) c.in-Value-u64.ensures
+
+abbrev table_offset : (c : In-Value-u64-2) → ReadTo c.args.bytes.now c.in-Value-u64-2.r.pos
+table_offset c = next 8 (owner_generation (goal.at.In-Value-u64-2 c).In-Value-u64) c.in-Value-u64-2.ensures
+
+abbrev created_unix_s : (c : In-Value-u64-3) → ReadTo c.args.bytes.now c.in-Value-u64-3.r.pos
+created_unix_s c = next 8 (table_offset (goal.at.In-Value-u64-3 c).In-Value-u64-2) c.in-Value-u64-3.ensures
+
+abbrev features : (c : In-Value-u64-4) → ReadTo c.args.bytes.now c.in-Value-u64-4.r.pos
+features c = next 8 (created_unix_s (goal.at.In-Value-u64-4 c).In-Value-u64-3) c.in-Value-u64-4.ensures
+
+-- ---- where one is refused
+
 pub returns-in_default : goal.returns-in_default
-returns-in_default c =
-    cut 1 (start 0 c.new-r.ensures) c.in_default.ensures (lit≤ tt)
+returns-in_default c = cut 1 (start 0 c.new-r.ensures) c.in_default.ensures (lit≤ tt)
 
 pub returns-in_default-u8 : goal.returns-in_default-u8
-returns-in_default-u8 c =
-    let log2_block_size = next_byte (start 0 c.new-r.ensures) c.in-Value.ensures in
-    cut 1 log2_block_size c.in_default-u8.ensures (lit≤ tt)
+returns-in_default-u8 c = cut 1 (log2_block_size (goal.at.returns-in_default-u8 c).In-Value) c.in_default-u8.ensures (lit≤ tt)
 
 pub returns-in_default-u16 : goal.returns-in_default-u16
-returns-in_default-u16 c =
-    let log2_block_size = next_byte (start 0 c.new-r.ensures) c.in-Value.ensures in
-    let log2_table_slot_size = next_byte log2_block_size c.in-Value-u8.ensures in
-    cut 2 log2_table_slot_size c.in_default-u16.ensures (lit≤ tt)
+returns-in_default-u16 c = cut 2 (log2_table_slot_size (goal.at.returns-in_default-u16 c).In-Value-u8) c.in_default-u16.ensures (lit≤ tt)
 
 pub returns-in_default-u32 : goal.returns-in_default-u32
-returns-in_default-u32 c =
-    let log2_block_size = next_byte (start 0 c.new-r.ensures) c.in-Value.ensures in
-    let log2_table_slot_size = next_byte log2_block_size c.in-Value-u8.ensures in
-    let device_index = next 2 log2_table_slot_size c.in-Value-u16.ensures in
-    cut 4 device_index c.in_default-u32.ensures (lit≤ tt)
+returns-in_default-u32 c = cut 4 (device_index (goal.at.returns-in_default-u32 c).In-Value-u16) c.in_default-u32.ensures (lit≤ tt)
 
 pub returns-in_default-u64 : goal.returns-in_default-u64
-returns-in_default-u64 c =
-    let log2_block_size = next_byte (start 0 c.new-r.ensures) c.in-Value.ensures in
-    let log2_table_slot_size = next_byte log2_block_size c.in-Value-u8.ensures in
-    let device_index = next 2 log2_table_slot_size c.in-Value-u16.ensures in
-    let reserved0 = next 4 device_index c.in-Value-u32.ensures in
-    cut 8 reserved0 c.in_default-u64.ensures (lit≤ tt)
+returns-in_default-u64 c = cut 8 (reserved0 (goal.at.returns-in_default-u64 c).In-Value-u32) c.in_default-u64.ensures (lit≤ tt)
 
 pub returns-in_default-u64-2 : goal.returns-in_default-u64-2
-returns-in_default-u64-2 c =
-    let log2_block_size = next_byte (start 0 c.new-r.ensures) c.in-Value.ensures in
-    let log2_table_slot_size = next_byte log2_block_size c.in-Value-u8.ensures in
-    let device_index = next 2 log2_table_slot_size c.in-Value-u16.ensures in
-    let reserved0 = next 4 device_index c.in-Value-u32.ensures in
-    let owner_generation = next 8 reserved0 c.in-Value-u64.ensures in
-    cut 8 owner_generation c.in_default-u64-2.ensures (lit≤ tt)
+returns-in_default-u64-2 c = cut 8 (owner_generation (goal.at.returns-in_default-u64-2 c).In-Value-u64) c.in_default-u64-2.ensures (lit≤ tt)
 
 pub returns-in_default-u64-3 : goal.returns-in_default-u64-3
-returns-in_default-u64-3 c =
-    let log2_block_size = next_byte (start 0 c.new-r.ensures) c.in-Value.ensures in
-    let log2_table_slot_size = next_byte log2_block_size c.in-Value-u8.ensures in
-    let device_index = next 2 log2_table_slot_size c.in-Value-u16.ensures in
-    let reserved0 = next 4 device_index c.in-Value-u32.ensures in
-    let owner_generation = next 8 reserved0 c.in-Value-u64.ensures in
-    let table_offset = next 8 owner_generation c.in-Value-u64-2.ensures in
-    cut 8 table_offset c.in_default-u64-3.ensures (lit≤ tt)
+returns-in_default-u64-3 c = cut 8 (table_offset (goal.at.returns-in_default-u64-3 c).In-Value-u64-2) c.in_default-u64-3.ensures (lit≤ tt)
 
 pub returns-in_default-u64-4 : goal.returns-in_default-u64-4
-returns-in_default-u64-4 c =
-    let log2_block_size = next_byte (start 0 c.new-r.ensures) c.in-Value.ensures in
-    let log2_table_slot_size = next_byte log2_block_size c.in-Value-u8.ensures in
-    let device_index = next 2 log2_table_slot_size c.in-Value-u16.ensures in
-    let reserved0 = next 4 device_index c.in-Value-u32.ensures in
-    let owner_generation = next 8 reserved0 c.in-Value-u64.ensures in
-    let table_offset = next 8 owner_generation c.in-Value-u64-2.ensures in
-    let created_unix_s = next 8 table_offset c.in-Value-u64-3.ensures in
-    cut 8 created_unix_s c.in_default-u64-4.ensures (lit≤ tt)
+returns-in_default-u64-4 c = cut 8 (created_unix_s (goal.at.returns-in_default-u64-4 c).In-Value-u64-3) c.in_default-u64-4.ensures (lit≤ tt)
 
 pub returns-in_default-u64-5 : goal.returns-in_default-u64-5
-returns-in_default-u64-5 c =
-    let log2_block_size = next_byte (start 0 c.new-r.ensures) c.in-Value.ensures in
-    let log2_table_slot_size = next_byte log2_block_size c.in-Value-u8.ensures in
-    let device_index = next 2 log2_table_slot_size c.in-Value-u16.ensures in
-    let reserved0 = next 4 device_index c.in-Value-u32.ensures in
-    let owner_generation = next 8 reserved0 c.in-Value-u64.ensures in
-    let table_offset = next 8 owner_generation c.in-Value-u64-2.ensures in
-    let created_unix_s = next 8 table_offset c.in-Value-u64-3.ensures in
-    let features = next 8 created_unix_s c.in-Value-u64-4.ensures in
-    cut 8 features c.in_default-u64-5.ensures (lit≤ tt)
+returns-in_default-u64-5 c = cut 8 (features (goal.at.returns-in_default-u64-5 c).In-Value-u64-4) c.in_default-u64-5.ensures (lit≤ tt)
+
+-- ---- the base
 
 pub returns : goal.returns
 returns c =
-    let log2_block_size = next_byte (start 0 c.new-r.ensures) c.in-Value.ensures in
-    let log2_table_slot_size = next_byte log2_block_size c.in-Value-u8.ensures in
-    let device_index = next 2 log2_table_slot_size c.in-Value-u16.ensures in
-    let reserved0 = next 4 device_index c.in-Value-u32.ensures in
-    let owner_generation = next 8 reserved0 c.in-Value-u64.ensures in
-    let table_offset = next 8 owner_generation c.in-Value-u64-2.ensures in
-    let created_unix_s = next 8 table_offset c.in-Value-u64-3.ensures in
-    let features = next 8 created_unix_s c.in-Value-u64-4.ensures in
-    let reserved1 = reads 8 features c.in-Value-u64-5.ensures in
+    let reserved1 = reads 8 (features (goal.at.returns c).In-Value-u64-4) c.in-Value-u64-5.ensures in
     ap (λ (numbers : List ℕ). RawVolumeMetaRead.Fields (base_of numbers)) (gave_all reserved1 refl) ∙ sym (base_read _ (gave reserved1 refl).2)
