@@ -1,9 +1,8 @@
 -- `read_tail` meets its contract: each read is done at the offset of its field, so its value is the field and the next read starts
 -- after it; where one is refused, the bytes end before the record does.
-use Rattle.std.proofs.Common.{◌≡◌, refl, sym, ap, ◌∙◌, List, ℕ, ◌+◌, ◌≤◌, lit≤}
+use Rattle.std.proofs.Common.{refl, sym, ap, ◌∙◌, List, ℕ, lit≤}
 use Rattle.codec.proofs.Steps.{ReadTo, start, reads, reads_byte, after, gave, gave_all, too_short, each}
 use Rattle.volume_tail.proofs.TailLaws.{tail-cut, tail-read}
-use Rattle.volume_tail.specs.Tail.{tailRead}
 use Rattle.volume_tail.specs.declared.RawTail.{RawTail}
 use Rattle.volume_tail.specs.declared.RawTailRead.{RawTailRead}
 use Rattle.volume_tail.proofs.read_tail.Goals as goal

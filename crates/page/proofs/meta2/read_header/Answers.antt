@@ -1,8 +1,7 @@
 -- `read_header` meets its contract: each read is done at the offset of its field, so its value is the field and the next read starts
 -- after it; where one is refused, the bytes end before the header does.
-use Rattle.std.proofs.Common.{◌≡◌, refl, sym, ap, ◌∙◌, List, ℕ, ◌+◌, ◌≤◌, lit≤}
+use Rattle.std.proofs.Common.{refl, sym, ap, ◌∙◌, List, ℕ, lit≤}
 use Rattle.codec.proofs.Steps.{ReadTo, start, reads, reads-run, after, gave, too_short, each}
-use Rattle.page.specs.Read.{headerRead}
 use Rattle.page.specs.declared.meta2.PageHeader.{PageHeader}
 use Rattle.page.specs.declared.meta2.HeaderRead.{HeaderRead}
 use Rattle.page.proofs.ReadLaws.{header-cut, header-there}

@@ -1,9 +1,8 @@
 -- `read_base` meets its contract: each read is done at the offset of its field, so its value is the field and the next read starts
 -- after it; where one is refused, the bytes end before the base does.
-use Rattle.std.proofs.Common.{◌≡◌, refl, sym, ap, ◌∙◌, List, ℕ, ◌+◌, ◌≤◌, lit≤}
+use Rattle.std.proofs.Common.{refl, sym, ap, ◌∙◌, List, ℕ, lit≤}
 use Rattle.codec.proofs.Steps.{ReadTo, start, reads, reads_byte, after, gave, gave_all, too_short, each}
 use Rattle.volume_base.proofs.DecodeLaws.{base-cut, base_read}
-use Rattle.volume_base.specs.Base.{baseRead}
 use Rattle.volume_base.specs.declared.meta.RawVolumeMeta.{RawVolumeMeta}
 use Rattle.volume_base.specs.declared.meta.RawVolumeMetaRead.{RawVolumeMetaRead}
 use Rattle.volume_base.proofs.meta.read_base.Goals as goal
