@@ -40,37 +40,14 @@ impl SlotPart {
     pub fn bytes(self) -> [u8; 26]
         ensures { result ≡ partBytes self }
     {
-        let g = self.generation;
-        let n = self.meta_seq;
-        let own = self.header_crc32c;
-        let prev = self.prev_header_crc32c;
+        let g = self.generation.to_le_bytes();
+        let n = self.meta_seq.to_le_bytes();
+        let own = self.header_crc32c.to_le_bytes();
+        let prev = self.prev_header_crc32c.to_le_bytes();
         [
-            self.code,
-            self.facts,
-            (g % 0x100) as u8,
-            (g / 0x100 % 0x100) as u8,
-            (g / 0x1_0000 % 0x100) as u8,
-            (g / 0x100_0000 % 0x100) as u8,
-            (g / 0x1_0000_0000 % 0x100) as u8,
-            (g / 0x100_0000_0000 % 0x100) as u8,
-            (g / 0x1_0000_0000_0000 % 0x100) as u8,
-            (g / 0x100_0000_0000_0000 % 0x100) as u8,
-            (n % 0x100) as u8,
-            (n / 0x100 % 0x100) as u8,
-            (n / 0x1_0000 % 0x100) as u8,
-            (n / 0x100_0000 % 0x100) as u8,
-            (n / 0x1_0000_0000 % 0x100) as u8,
-            (n / 0x100_0000_0000 % 0x100) as u8,
-            (n / 0x1_0000_0000_0000 % 0x100) as u8,
-            (n / 0x100_0000_0000_0000 % 0x100) as u8,
-            (own % 0x100) as u8,
-            (own / 0x100 % 0x100) as u8,
-            (own / 0x1_0000 % 0x100) as u8,
-            (own / 0x100_0000 % 0x100) as u8,
-            (prev % 0x100) as u8,
-            (prev / 0x100 % 0x100) as u8,
-            (prev / 0x1_0000 % 0x100) as u8,
-            (prev / 0x100_0000 % 0x100) as u8,
+            self.code, self.facts, g[0], g[1], g[2], g[3], g[4], g[5], g[6], g[7], n[0], n[1],
+            n[2], n[3], n[4], n[5], n[6], n[7], own[0], own[1], own[2], own[3], prev[0], prev[1],
+            prev[2], prev[3],
         ]
     }
 }

@@ -117,7 +117,8 @@ fn volume_verdict(verdicts: &[PairVerdict]) -> PairVerdict
 // (8) and another number of verdicts (9); nothing is written where it refuses.
 #[tactic(auto, unfolding(crate::specs::Row::rowJudged, crate::specs::Row::rowVerdicts, verdict::specs::Judge::refusedRow))]
 pub fn judge(pairs: &[PairRead], clean_close: bool, out: &mut [PairVerdict]) -> Judged
-    ensures { (result ≡ rowJudged pairs.now clean_close (length out.old)) × (out.new ≡ rowVerdicts pairs.now clean_close out.old) }
+    ensures value { result ≡ rowJudged pairs.now clean_close (length out.old) }
+    ensures out_after { out.new ≡ rowVerdicts pairs.now clean_close out.old }
 {
     if pairs.len() == 0 {
         return Judged::Refusal(8);

@@ -11,10 +11,13 @@ returns c =
     let second = c.second_pass-heal.ensures in
     let volume = c.volume_verdict-volume.ensures in
     let rules = c.store_rules-rules.ensures in
-    let last = c.volume_verdict-last.ensures ∙ ap volumeVerdict second.out_after in (
-      passes-judge a.pairs.now a.clean_close c.if-pairs-eq0.false c.maxima_of-m.ensures first.tally first.out_after volume rules
-          a.out.now c.if-out-pairs.false second.heal last c.writable.ensures,
-      second.out_after
+    let last = c.volume_verdict-last.ensures ∙ ap volumeVerdict second.out_after in
+    record {
+      value =
+          passes-judge a.pairs.now a.clean_close c.if-pairs-eq0.false c.maxima_of-m.ensures first.tally first.out_after volume rules
+          a.out.now c.if-out-pairs.false second.heal last c.writable.ensures;
+      out_after =
+          second.out_after
           ∙ passes-verdicts a.pairs.now a.clean_close c.if-pairs-eq0.false c.maxima_of-m.ensures first.tally first.out_after volume rules
-          a.out.now c.if-out-pairs.false,
-    )
+          a.out.now c.if-out-pairs.false;
+    }

@@ -1,13 +1,12 @@
 -- `read_tail` meets its contract: each read is done at the offset of its field, so its value is the field and the next read starts
 -- after it; where one is refused, the bytes end before the record does.
-use Rattle.std.proofs.Common.{◌≡◌, refl, sym, ap, ◌∙◌, List, ℕ, ◌+◌, ◌≤◌, lit≤}
-use Rattle.codec.specs.Cursor.{done, refused, read}
+use Rattle.std.proofs.Common.{refl, sym, ap, ◌∙◌, List, ℕ, lit≤}
 use Rattle.codec.proofs.Steps.{ReadTo, start, reads, reads_byte, after, gave, gave_all, too_short, each}
 use Rattle.volume_tail.proofs.TailLaws.{tail-cut, tail-read}
-use Rattle.volume_tail.specs.Tail.{tailRead}
 use Rattle.volume_tail.specs.declared.RawTail.{RawTail}
 use Rattle.volume_tail.specs.declared.RawTailRead.{RawTailRead}
 use Rattle.volume_tail.proofs.read_tail.Goals as goal
+use Rattle.volume_tail.proofs.read_tail.Goals.{In-Value, In-Value-u16, In-Value-u8, In-Value-u8-2, In-Value-u32}
 
 -- The fields of the numbers that the reads give, in their order.
 abbrev tailOf : List ℕ → RawTail
@@ -22,64 +21,46 @@ tailOf =
       reserved1 = reserved1;
     }
 
--- ---- a read that is done, and one that is refused
-
-abbrev next : (w : ℕ) {s : List ℕ} {pos : ℕ} → ReadTo s pos → {x p : ℕ} → done x p ≡ read w s pos → ReadTo s p
-next w row says = after (reads w row says) refl
-
-abbrev next_byte : {s : List ℕ} {pos : ℕ} → ReadTo s pos → {x p : ℕ} → done x p ≡ read 1 s pos → ReadTo s p
-next_byte row says = after (reads_byte row says) refl
-
-cut : (w : ℕ) {s : List ℕ} {pos : ℕ} (row : ReadTo s pos) → refused 6 ≡ read w s pos → row.at + w ≤ 64 → RawTailRead.Truncated ≡ tailRead s
-cut w row says within = too_short tail-cut (reads w row says) refl within
-
 -- ---- the reads
 
+abbrev table_pages : (c : In-Value) → ReadTo c.args.bytes.now c.in-Value.r.pos
+table_pages c = after (reads 4 (start 48 refl) c.in-Value.ensures) refl
+
+abbrev entries_per_page : (c : In-Value-u16) → ReadTo c.args.bytes.now c.in-Value-u16.r.pos
+entries_per_page c = after (reads 2 (table_pages (goal.at.In-Value-u16 c).In-Value) c.in-Value-u16.ensures) refl
+
+abbrev clean_close : (c : In-Value-u8) → ReadTo c.args.bytes.now c.in-Value-u8.r.pos
+clean_close c = after (reads_byte (entries_per_page (goal.at.In-Value-u8 c).In-Value-u16) c.in-Value-u8.ensures) refl
+
+abbrev reserved0 : (c : In-Value-u8-2) → ReadTo c.args.bytes.now c.in-Value-u8-2.r.pos
+reserved0 c = after (reads_byte (clean_close (goal.at.In-Value-u8-2 c).In-Value-u8) c.in-Value-u8-2.ensures) refl
+
+abbrev flags : (c : In-Value-u32) → ReadTo c.args.bytes.now c.in-Value-u32.r.pos
+flags c = after (reads 4 (reserved0 (goal.at.In-Value-u32 c).In-Value-u8-2) c.in-Value-u32.ensures) refl
+
+-- ---- where one is refused
+
 pub returns-in_default : goal.returns-in_default
-returns-in_default c =
-    cut 4 (start 48 refl) c.in_default.ensures (lit≤ tt)
+returns-in_default c = too_short tail-cut (reads 4 (start 48 refl) c.in_default.ensures) refl (lit≤ tt)
 
 pub returns-in_default-u16 : goal.returns-in_default-u16
-returns-in_default-u16 c =
-    let table_pages = next 4 (start 48 refl) c.in-Value.ensures in
-    cut 2 table_pages c.in_default-u16.ensures (lit≤ tt)
+returns-in_default-u16 c = too_short tail-cut (reads 2 (table_pages (goal.at.returns-in_default-u16 c).In-Value) c.in_default-u16.ensures) refl (lit≤ tt)
 
 pub returns-in_default-u8 : goal.returns-in_default-u8
-returns-in_default-u8 c =
-    let table_pages = next 4 (start 48 refl) c.in-Value.ensures in
-    let entries_per_page = next 2 table_pages c.in-Value-u16.ensures in
-    cut 1 entries_per_page c.in_default-u8.ensures (lit≤ tt)
+returns-in_default-u8 c = too_short tail-cut (reads_byte (entries_per_page (goal.at.returns-in_default-u8 c).In-Value-u16) c.in_default-u8.ensures) refl (lit≤ tt)
 
 pub returns-in_default-u8-2 : goal.returns-in_default-u8-2
-returns-in_default-u8-2 c =
-    let table_pages = next 4 (start 48 refl) c.in-Value.ensures in
-    let entries_per_page = next 2 table_pages c.in-Value-u16.ensures in
-    let clean_close = next_byte entries_per_page c.in-Value-u8.ensures in
-    cut 1 clean_close c.in_default-u8-2.ensures (lit≤ tt)
+returns-in_default-u8-2 c = too_short tail-cut (reads_byte (clean_close (goal.at.returns-in_default-u8-2 c).In-Value-u8) c.in_default-u8-2.ensures) refl (lit≤ tt)
 
 pub returns-in_default-u32 : goal.returns-in_default-u32
-returns-in_default-u32 c =
-    let table_pages = next 4 (start 48 refl) c.in-Value.ensures in
-    let entries_per_page = next 2 table_pages c.in-Value-u16.ensures in
-    let clean_close = next_byte entries_per_page c.in-Value-u8.ensures in
-    let reserved0 = next_byte clean_close c.in-Value-u8-2.ensures in
-    cut 4 reserved0 c.in_default-u32.ensures (lit≤ tt)
+returns-in_default-u32 c = too_short tail-cut (reads 4 (reserved0 (goal.at.returns-in_default-u32 c).In-Value-u8-2) c.in_default-u32.ensures) refl (lit≤ tt)
 
 pub returns-in_default-u32-2 : goal.returns-in_default-u32-2
-returns-in_default-u32-2 c =
-    let table_pages = next 4 (start 48 refl) c.in-Value.ensures in
-    let entries_per_page = next 2 table_pages c.in-Value-u16.ensures in
-    let clean_close = next_byte entries_per_page c.in-Value-u8.ensures in
-    let reserved0 = next_byte clean_close c.in-Value-u8-2.ensures in
-    let flags = next 4 reserved0 c.in-Value-u32.ensures in
-    cut 4 flags c.in_default-u32-2.ensures (lit≤ tt)
+returns-in_default-u32-2 c = too_short tail-cut (reads 4 (flags (goal.at.returns-in_default-u32-2 c).In-Value-u32) c.in_default-u32-2.ensures) refl (lit≤ tt)
+
+-- ---- the tail
 
 pub returns : goal.returns
 returns c =
-    let table_pages = next 4 (start 48 refl) c.in-Value.ensures in
-    let entries_per_page = next 2 table_pages c.in-Value-u16.ensures in
-    let clean_close = next_byte entries_per_page c.in-Value-u8.ensures in
-    let reserved0 = next_byte clean_close c.in-Value-u8-2.ensures in
-    let flags = next 4 reserved0 c.in-Value-u32.ensures in
-    let reserved1 = reads 4 flags c.in-Value-u32-2.ensures in
+    let reserved1 = reads 4 (flags (goal.at.returns c).In-Value-u32) c.in-Value-u32-2.ensures in
     ap (λ (numbers : List ℕ). RawTailRead.Fields (tailOf numbers)) (gave_all reserved1 refl) ∙ sym (tail-read _ (gave reserved1 refl).2)

@@ -8,10 +8,11 @@ pub returns : goal.returns
 unfolding partBytes
 returns c =
     let p = c.args.self in
-    ap₂ ◌++◌
+    rw (c.to_le_bytes-g.ensures, c.to_le_bytes-n.ensures, c.to_le_bytes-own.ensures, c.to_le_bytes-prev.ensures)
+    (ap₂ ◌++◌
     (ap₂ ◌++◌
     (ap₂ ◌++◌
     (ap₂ ◌++◌ (ap₂ ◌++◌ (bytes-byte p.code (search rules)) (bytes-byte p.facts (search rules))) (bytes-low_first 7 p.generation))
     (bytes-low_first 7 p.meta_seq))
     (bytes-low_first 3 p.header_crc32c))
-    (bytes-low_first 3 p.prev_header_crc32c)
+    (bytes-low_first 3 p.prev_header_crc32c))
