@@ -67,14 +67,12 @@ fn write_entries(out: &mut [u8], entries: &[u8]) -> Written
     ensures out_after { out.new ≡ storedEntries (length entries.now / 96) entries.now }
 {
     let count = entries.len() / 96;
-    let mut i = 0;
-    while i < count {
+    for i in 0..count {
         let start = i * 96;
         let end = start + 96;
         let Written::Next(_) = write_entry(&mut out[start..end], &entries[start..end]) else {
             return Written::Overflow;
         };
-        i += 1;
     }
     Written::Next(Writer { pos: entries.len() })
 }

@@ -11,7 +11,7 @@ use Rattle.page_write.proofs.WriteLaws.{entry-take, entry-size, entries-more}
 use Rattle.page_write.proofs.write_entries.Goals as goal
 
 pub loop-i-init : goal.loop-i-init
-loop-i-init c = (omega arith, refl, left-start storedEntries _ c.args.entries.now)
+loop-i-init c = (refl, left-start storedEntries _ c.args.entries.now)
 
 -- An entry is not refused: its place is lent as long as it is.
 pub returns-in_default : goal.returns-in_default
@@ -27,7 +27,7 @@ loop-i-preserved c =
     let n : ℕ = length s / 96 in
     let at : ℕ = l.i * 96 in
     let below : l.i < n = c.loop-i-test.true in
-    let room : n * 96 ≤ length l.out = omega (arith, l.invariant.1, c.requires) in
+    let room : n * 96 ≤ length l.out = omega (arith, l.invariant.0, c.requires) in
     let long : n * 96 ≤ length s = omega (arith, c.requires) in
     let size = entry-size l.out s n l.i below room long in
     let new : List ℕ = c.write_entry.new.place in
@@ -35,9 +35,8 @@ loop-i-preserved c =
     rw add-sub_cancel_left at c.write_entry.ensures.place_after ∙ entry-take (drop at s) (simp length-drop (omega arith)) in
     let after : put_mid at (at + 96 - at) l.out new ≡ put l.out at (storedEntry (drop at s)) =
     put-part l.out new (at + 96 - at) (ap length written ∙ omega arith) at ∙ ap (put l.out at) written in (
-      omega arith,
-      rw after (length-put l.out at (storedEntry (drop at s)) (omega arith) ∙ l.invariant.1),
-      rw after (entries-more l.out s n l.i below room long ∙ l.invariant.2),
+      rw after (length-put l.out at (storedEntry (drop at s)) (omega arith) ∙ l.invariant.0),
+      rw after (entries-more l.out s n l.i below room long ∙ l.invariant.1),
     )
 
 pub returns : goal.returns
@@ -47,5 +46,5 @@ returns c =
     let all : length l.out ≤ l.i * 96 = omega arith in
     record {
       result_value = rw zero-add at (sym (step-there 7 (tt {0}) c.args.out.now 0 (length c.args.entries.now) (omega arith)));
-      out_after = sym (append-nil l.out) ∙ rw (none, take_all (l.i * 96) l.out all) at l.invariant.2;
+      out_after = sym (append-nil l.out) ∙ rw (none, take_all (l.i * 96) l.out all) at l.invariant.1;
     }
