@@ -14,13 +14,11 @@ pub fn check_entries(entries: &[u8], next_seq: u32) -> Check
     ensures { checkOutcome result ≡ entriesCheck next_seq (length entries.now / 96) entries.now }
 {
     let count = entries.len() / 96;
-    let mut i = 0;
-    while i < count {
+    for i in 0..count {
         let checked = check_entry(&entries[i * 96..], count - i - 1, next_seq);
         let Check::Pass = checked else {
             return checked;
         };
-        i += 1;
     }
     Check::Pass
 }
@@ -71,8 +69,7 @@ fn seq_among(entries: &[u8], count: usize, seq: u32) -> bool
     requires { count * 96 ≤ length entries.now }
     ensures { result ≡ contains seq (seqs count entries.now) }
 {
-    let mut i = 0;
-    while i < count {
+    for i in 0..count {
         let start = i * 96;
         let end = start + 96;
         let Read::Value(other, _) = Reader { pos: 0 }.u32(&entries[start..end]) else {
@@ -81,7 +78,6 @@ fn seq_among(entries: &[u8], count: usize, seq: u32) -> bool
         if other == seq {
             return true;
         }
-        i += 1;
     }
     false
 }

@@ -1,5 +1,5 @@
 -- `check_entries` meets its contract: what the check of the entries that are left gives is what it gives of all.
-use Rattle.std.proofs.Common.{◌≡◌, refl, sym, ap, ◌∙◌, ℕ, ◌+◌, ◌/◌, arith, length}
+use Rattle.std.proofs.Common.{◌≡◌, refl, sym, ap, ◌∙◌, ℕ, ◌+◌, ◌/◌, length}
 use Rattle.codec.specs.Outcome.{and_then}
 use Rattle.codec.proofs.CursorLaws.{part-rest}
 use Rattle.region.specs.Error.{checkOutcome}
@@ -9,7 +9,7 @@ use Rattle.page_entries.proofs.check_entries.Goals.{After-check_entry-checked}
 use Rattle.page_entries.proofs.check_entries.Goals as goal
 
 pub loop-i-init : goal.loop-i-init
-loop-i-init c = (omega arith, left-start (entriesCheck c.args.next_seq) _ c.args.entries.now)
+loop-i-init c = left-start (entriesCheck c.args.next_seq) _ c.args.entries.now
 
 -- The first of the entries that are left is the one that was checked.
 step : (c : After-check_entry-checked)
@@ -22,7 +22,7 @@ step c =
     let here = rw part-rest at c.check_entry-checked.ensures in
     rw here
     (sym (left_step check _ a.entries.now (λ m t rest. and_then (entryCheck a.next_seq m t) (λ _. rest)) (λ m t. refl) c.loop-i.i c.loop-i-test.true)
-    ∙ c.loop-i.invariant.1)
+    ∙ c.loop-i.invariant)
 
 pub returns-in_default : goal.returns-in_default
 returns-in_default c =
@@ -30,7 +30,7 @@ returns-in_default c =
     ap checkOutcome fails ∙ rw fails at (step (goal.at.returns-in_default c).After-check_entry-checked)
 
 pub loop-i-preserved : goal.loop-i-preserved
-loop-i-preserved c = (omega arith, rw c.in-Pass.is at (step (goal.at.loop-i-preserved c).After-check_entry-checked))
+loop-i-preserved c = rw c.in-Pass.is at (step (goal.at.loop-i-preserved c).After-check_entry-checked)
 
 pub returns : goal.returns
-returns c = sym (left_end (entriesCheck c.args.next_seq) _ c.args.entries.now c.loop-i.i c.loop-i-test.false) ∙ c.loop-i.invariant.1
+returns c = sym (left_end (entriesCheck c.args.next_seq) _ c.args.entries.now c.loop-i.i c.loop-i-test.false) ∙ c.loop-i.invariant

@@ -9,7 +9,7 @@ use Rattle.page_entries.proofs.seq_among.Goals.{In-Value}
 use Rattle.page_entries.proofs.seq_among.Goals as goal
 
 pub loop-i-init : goal.loop-i-init
-loop-i-init c = (omega arith, left-start (has c.args.seq) c.args.count c.args.entries.now)
+loop-i-init c = left-start (has c.args.seq) c.args.count c.args.entries.now
 
 pub returns-in_default : goal.returns-in_default
 returns-in_default c =
@@ -32,13 +32,13 @@ step c =
     let seq-is : c.in-Value.other ≡ le32 (drop at s) 0 = rw add-sub_cancel_left at number ∙ le-take 4 96 (drop at s) 0 (lit≤ tt) in
     rw seq-is
     (sym (left_step (has a.seq) a.count s (λ m t rest. cond (eqb (le32 t 0) a.seq) true rest) (λ m t. refl) c.loop-i.i c.loop-i-test.true)
-    ∙ c.loop-i.invariant.1)
+    ∙ c.loop-i.invariant)
 
 pub returns-then-other-seq : goal.returns-then-other-seq
 returns-then-other-seq c = rw (eq-eqb _ _ c.if-other-seq.true) at (step (goal.at.returns-then-other-seq c).In-Value)
 
 pub loop-i-preserved : goal.loop-i-preserved
-loop-i-preserved c = (omega arith, rw (ne_eqb _ _ c.if-other-seq.false) at (step (goal.at.loop-i-preserved c).In-Value))
+loop-i-preserved c = rw (ne_eqb _ _ c.if-other-seq.false) at (step (goal.at.loop-i-preserved c).In-Value)
 
 pub returns : goal.returns
-returns c = sym (left_end (has c.args.seq) c.args.count c.args.entries.now c.loop-i.i c.loop-i-test.false) ∙ c.loop-i.invariant.1
+returns c = sym (left_end (has c.args.seq) c.args.count c.args.entries.now c.loop-i.i c.loop-i-test.false) ∙ c.loop-i.invariant
