@@ -91,11 +91,9 @@ fn fill(out: &mut [u8], text: &[u8])
     requires text_in_bounds { length text.now / 2 ≤ length out.old }
     ensures { out.new ≡ put out.old 0 (bytes_of (decoded text.now)) }
 {
-    let mut done = 0;
-    while done < text.len() / 2 {
+    for done in 0..text.len() / 2 {
         let high = digit(text[2 * done]);
         let low = digit(text[2 * done + 1]);
         out[done] = 16 * high + low;
-        done += 1;
     }
 }
