@@ -73,12 +73,10 @@ fn name_ok(name: &[u8]) -> bool
 fn zero_at(bytes: &[u8]) -> usize
     ensures { (result ≡ zeroAt bytes.now) × (result ≤ length bytes.now) }
 {
-    let mut i = 0;
-    while i < bytes.len() {
+    for i in 0..bytes.len() {
         if bytes[i] == 0 {
             return i;
         }
-        i += 1;
     }
-    i
+    bytes.len()
 }
