@@ -83,9 +83,6 @@ module _ (l new : List ℕ) (i : ℕ) (v : PairVerdict) (fits : i * verdictWidth
       ap (λ (rest : List ℕ). take at l ++ rest) (ap (λ (rest : List ℕ). new ++ rest) none ∙ append-nil new ∙ back)
       ∙ sym (append_assoc (take at l) (verdictBytes (v ∷ [])) (drop (at + verdictWidth) l))
 
-  pub written-length : length after ≡ length l
-  written-length = rw after_is (simp (length-append, length-drop) (omega (arith, front)))
-
   -- One verdict more is written, and one less is left.
   pub written_step : (vs : List PairVerdict) → take ((i + 1) * verdictWidth) after ++ verdictBytes vs ≡ take at l ++ verdictBytes (v ∷ vs)
   written_step vs =

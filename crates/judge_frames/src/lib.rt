@@ -115,13 +115,11 @@ fn in_range(frames: &[u8], n: usize) -> bool
     requires { length frames.now ≡ n * frameWidth }
     ensures { result ≡ in_range (row n frames.now) }
 {
-    let mut i = 0;
-    while i < n {
+    for i in 0..n {
         let ok = pair_in_range(pair_from(&frames[i * FRAME..]));
         if !ok {
             return false;
         }
-        i += 1;
     }
     true
 }
@@ -189,11 +187,9 @@ fn maxima_of(frames: &[u8], n: usize) -> Maxima
         max1_count: 0,
         max2: 0,
     };
-    let mut i = 0;
-    while i < n {
+    for i in 0..n {
         let p = pair_from(&frames[i * FRAME..]);
         m = candidate::numbers::note_pair(m, p);
-        i += 1;
     }
     m
 }
@@ -209,12 +205,10 @@ fn first_pass(frames: &[u8], n: usize, m: Maxima) -> Tally
         troubled: false,
         refused: false,
     };
-    let mut i = 0;
-    while i < n {
+    for i in 0..n {
         let case = candidate::pairs::pair_case(pair_from(&frames[i * FRAME..]));
         let v = verdict::verdict::pair_verdict(m, case);
         t = verdict::verdict::tallied(t, i == 0, case, v);
-        i += 1;
     }
     t
 }
@@ -226,13 +220,11 @@ fn second_pass(frames: &[u8], n: usize, m: Maxima, volume: bool, page: bool, out
     ensures out_after { out.new ≡ verdictBytes (lastVerdicts volume page (verdictsBy m (row n frames.now))) }
 {
     let mut found = Heal::Nothing;
-    let mut i = 0;
-    while i < n {
+    for i in 0..n {
         let case = candidate::pairs::pair_case(pair_from(&frames[i * FRAME..]));
         let v = verdict::verdict::last_verdict(i == 0, m, case, volume, page);
         put_verdict(&mut out[i * VERDICT..], v);
         found = verdict::verdict::heal_of(i, found, v);
-        i += 1;
     }
     found
 }

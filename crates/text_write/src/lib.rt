@@ -47,10 +47,8 @@ fn put_line(output: &mut [u8], at: usize, bytes: &[u8])
     requires { at + (2 * length bytes.now + 1) ≤ length output.old }
     ensures { output.new ≡ put output.old at (line bytes.now) }
 {
-    let mut done = 0;
-    while done < 2 * bytes.len() + 1 {
+    for done in 0..2 * bytes.len() + 1 {
         output[at + done] = character(bytes, done);
-        done += 1;
     }
 }
 
@@ -59,12 +57,10 @@ fn put_verdicts(output: &mut [u8], verdicts: &[u8], n: usize)
     requires { (n * verdictWidth ≤ length verdicts.now) × (n * verdictLine ≤ length output.old) }
     ensures { output.new ≡ put output.old 0 (verdictLines n verdicts.now) }
 {
-    let mut i = 0;
-    while i < n {
+    for i in 0..n {
         let from = i * VERDICT;
         let to = from + VERDICT;
         put_line(output, i * VERDICT_LINE, &verdicts[from..to]);
-        i += 1;
     }
 }
 

@@ -89,12 +89,10 @@ fn read_frames(text: &[u8], out: &mut [u8]) -> Decoded
     if out.len() < n * FRAME {
         return Decoded::Bad;
     }
-    let mut i = 0;
-    while i < n {
+    for i in 0..n {
         if !read_line(&text[i * FRAME_LINE..], &mut out[i * FRAME..]) {
             return Decoded::Bad;
         }
-        i += 1;
     }
     if text.len() == n * FRAME_LINE {
         return Decoded::Bytes(n * FRAME);

@@ -1,5 +1,5 @@
 -- Noting the pairs that are left gives the maxima of all.
-use Rattle.std.proofs.Common.{◌≡◌, ◌≤◌, ◌-◌}
+use Rattle.std.proofs.Common.{◌≡◌}
 use Rattle.candidate.specs.Numbers.{slots}
 use Rattle.candidate.specs.Maxima.{noteAll, noMaxima}
 use Rattle.judge_frames.specs.Frames.{row}
@@ -7,7 +7,4 @@ use Rattle.judge_frames.proofs.RowLaws.{rowFrom}
 use Rattle.judge_frames.proofs.maxima_of.Given as goal
 
 abbrev pub invariant-loop-i : goal.invariant-loop-i
-invariant-loop-i l = (l.i ≤ l.n) × (noteAll l.m (slots (rowFrom l.n l.frames l.i)) ≡ noteAll noMaxima (slots (row l.n l.frames)))
-
-abbrev pub decreases-loop-i : goal.decreases-loop-i
-decreases-loop-i l = l.n - l.i
+invariant-loop-i l = noteAll l.m (slots (rowFrom l.n l.frames l.i)) ≡ noteAll noMaxima (slots (row l.n l.frames))

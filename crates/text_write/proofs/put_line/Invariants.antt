@@ -1,14 +1,8 @@
 -- The loop's invariant of `put_line`: the first `done` characters of the line are pasted in.
-use Rattle.std.proofs.Common.{◌≡◌, ◌≤◌, ◌+◌, ◌*◌, ◌-◌, length}
+use Rattle.std.proofs.Common.{◌≡◌}
 use Rattle.std.proofs.Math.Seq.{paste}
 use Rattle.text_write.specs.Write.{line}
 use Rattle.text_write.proofs.put_line.Given as goal
 
 abbrev pub invariant-loop-done : goal.invariant-loop-done
-invariant-loop-done l =
-    (l.done ≤ 2 * length l.bytes + 1)
-    × (length l.output ≡ length l.initial.output)
-    × (l.output ≡ paste l.initial.output l.at (line l.bytes) l.done)
-
-abbrev pub decreases-loop-done : goal.decreases-loop-done
-decreases-loop-done l = 2 * length l.bytes + 1 - l.done
+invariant-loop-done l = l.output ≡ paste l.initial.output l.at (line l.bytes) l.done

@@ -1,5 +1,5 @@
 -- `read_frames` meets its contract: each turn decodes a line's frame behind those before it, up to the first bad line.
-use Rattle.std.proofs.Common.{◌≡◌, refl, sym, ap, ◌∙◌, ℕ, ◌<◌, ◌≤◌, ◌+◌, ◌-◌, ◌*◌, arith, length, drop, length-drop}
+use Rattle.std.proofs.Common.{◌≡◌, sym, ap, ◌∙◌, ℕ, ◌<◌, ◌≤◌, ◌+◌, ◌-◌, ◌*◌, arith, length, drop, length-drop}
 use Rattle.std.proofs.Math.Option.{some, none}
 use borrow.Rule.Slice.PartMut.{put_mid}
 use Rattle.codec.specs.Bytes.{put}
@@ -19,7 +19,10 @@ returns-then-out-n c =
 pub loop-i-init : goal.loop-i-init
 loop-i-init c =
     let s = c.args.text.now in
-    (omega arith, refl, ap is_some (frames-start (lineCount s) s), ap (put c.args.out.now 0) (good_start (lineCount s) s))
+    record {
+      frames = ap is_some (frames-start (lineCount s) s);
+      good = ap (put c.args.out.now 0) (good_start (lineCount s) s);
+    }
 
 pub returns-then-not-read_line : goal.returns-then-not-read_line
 unfolding decodeOut
@@ -35,8 +38,8 @@ returns-then-not-read_line c =
     let wrote = rw (part-rest, part-rest) at c.read_line.ensures.out_after in
     let bad : frame_at line ≡ none = no_bytes (frame_at line) (sym here) in
     let kept = ap (put_mid at (length l.out - at) l.out) (rw bad at wrote) ∙ lent-kept l.out at (omega arith) in
-    let good = rw (good-step n s l.i more, bad) at l.invariant.3 in
-    let none_of = rw (frames-step n s l.i more, bad) at l.invariant.2 in
+    let good = rw (good-step n s l.i more, bad) at l.invariant.good in
+    let none_of = rw (frames-step n s l.i more, bad) at l.invariant.frames in
     let all = read-bad s a.out.now (omega arith) (kept ∙ sym (put-nil l.out at) ∙ good) (no_bytes (frameLines n s) (sym none_of)) in
     record { value = all.0; out_after = all.1 }
 
@@ -59,13 +62,11 @@ loop-i-preserved c =
     let decoded = rw frame at wrote ∙ put_whole (drop at l.out) 0 bs room in
     let after = ap (put_mid at (length l.out - at) l.out) decoded ∙ lent-put l.out at (omega arith) bs in
     let next : (l.i + 1) * frameWidth ≡ at + frameWidth = omega arith in
-    let frames = rw (frames-step n s l.i more, frame) at l.invariant.2 in
-    let good = rw (good-step n s l.i more, frame) at l.invariant.3 in (
-      omega arith,
-      omega arith,
-      sym (joined-some bs (framesFrom n s (l.i + 1))) ∙ frames,
-      rw next (put-more l.out _ bs (goodFrom n s (l.i + 1)) at frameWidth (omega arith) size after ∙ good),
-    )
+    let frames = rw (frames-step n s l.i more, frame) at l.invariant.frames in
+    let good = rw (good-step n s l.i more, frame) at l.invariant.good in record {
+      frames = sym (joined-some bs (framesFrom n s (l.i + 1))) ∙ frames;
+      good = rw next (put-more l.out _ bs (goodFrom n s (l.i + 1)) at frameWidth (omega arith) size after ∙ good);
+    }
 
 pub returns-then-text-n : goal.returns-then-text-n
 returns-then-text-n c =
@@ -74,8 +75,8 @@ returns-then-text-n c =
     let s = a.text.now in
     let n = lineCount s in
     let end : l.i ≡ n = omega arith in
-    let good = rw (good-end n s l.i (omega arith)) at l.invariant.3 in
-    let all = rw (end, frames-end n s (omega arith)) at l.invariant.2 in
+    let good = rw (good-end n s l.i (omega arith)) at l.invariant.good in
+    let all = rw (end, frames-end n s (omega arith)) at l.invariant.frames in
     let done = read_done s a.out.now (omega arith) (sym (put-nil l.out (l.i * frameWidth)) ∙ good) (sym all) in
     record { value = done.0; out_after = done.1 }
 
@@ -86,7 +87,7 @@ returns c =
     let s = a.text.now in
     let n = lineCount s in
     let end : l.i ≡ n = omega arith in
-    let good = rw (good-end n s l.i (omega arith)) at l.invariant.3 in
-    let left = rw (end, frames-more n s (omega arith) c.if-text-n.false) at l.invariant.2 in
+    let good = rw (good-end n s l.i (omega arith)) at l.invariant.good in
+    let left = rw (end, frames-more n s (omega arith) c.if-text-n.false) at l.invariant.frames in
     let bad = read-bad s a.out.now (omega arith) (sym (put-nil l.out (l.i * frameWidth)) ∙ good) (no_bytes (frameLines n s) (sym left)) in
     record { value = bad.0; out_after = bad.1 }
