@@ -148,10 +148,8 @@ fn pairs_of(frames: &[u8], n: usize) -> [PairRead; 5]
         a: unread,
         b: unread,
     }; 5];
-    let mut i = 0;
-    while i < n {
+    for i in 0..n {
         pairs[i] = pair_of(&frames[i * FRAME..]);
-        i += 1;
     }
     pairs
 }
@@ -211,11 +209,9 @@ fn bytes_of(vs: [PairVerdict; 5]) -> [u8; 20]
     ensures { result ≡ verdictBytes vs }
 {
     let mut bytes = [0u8; 20];
-    let mut i = 0;
-    while i < PAIRS * VERDICT {
+    for i in 0..PAIRS * VERDICT {
         let v = verdict_bytes(vs[i / VERDICT]);
         bytes[i] = v[i % VERDICT];
-        i += 1;
     }
     bytes
 }

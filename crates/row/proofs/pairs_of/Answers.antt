@@ -7,22 +7,21 @@ use Rattle.row.proofs.RecordLaws.{filled-step}
 use Rattle.row.proofs.pairs_of.Goals as goal
 
 pub loop-i-init : goal.loop-i-init
-loop-i-init c = (omega arith, refl, simp row-start)
+loop-i-init c = record { size = refl; filled = simp row-start }
 
 pub loop-i-preserved : goal.loop-i-preserved
 loop-i-preserved c =
     let a = c.args in
     let l = c.loop-i in
     let here = rw part-rest at c.pair_of.ensures in
-    let left = rw (row_step a.n a.frames.now l.i c.loop-i-test.true) at l.invariant.2 in (
-      omega arith,
-      length-set l.pairs l.i c.pair_of.result ∙ l.invariant.1,
-      filled-step l.pairs l.i c.pair_of.result (records (rowFrom a.n a.frames.now (l.i + 1))) (omega arith) ∙ rw here left,
-    )
+    let left = rw (row_step a.n a.frames.now l.i c.loop-i-test.true) at l.invariant.filled in record {
+      size = length-set l.pairs l.i c.pair_of.result ∙ l.invariant.size;
+      filled = filled-step l.pairs l.i c.pair_of.result (records (rowFrom a.n a.frames.now (l.i + 1))) (omega arith) ∙ rw here left;
+    }
 
 pub returns : goal.returns
 returns c =
     let l = c.loop-i in
     let end : l.i ≡ c.args.n = omega arith in
-    let all = rw (row-end c.args.n c.args.frames.now l.i c.loop-i-test.false) at l.invariant.2 in
+    let all = rw (row-end c.args.n c.args.frames.now l.i c.loop-i-test.false) at l.invariant.filled in
     sym (append-nil (take c.args.n l.pairs)) ∙ rw end at all
