@@ -1,4 +1,4 @@
--- Which candidates qualify (document 01, "Store verdict"): by the numbers of all slots of the store.
+-- Which candidates qualify (docs/FORMAT.md, "The store verdict"): by the numbers of all slots of the store.
 use Rattle.std.specs.Prelude.{Bool, true, List, [], ◌∷◌, ◌++◌, ℕ, suc, ◌+◌, max, eqb, take, drop}
 use Rattle.frame.specs.declared.frame.SlotPart.{SlotPart}
 use Rattle.candidate.specs.declared.pairs.PairPart.{PairPart}

@@ -1,5 +1,5 @@
--- What a pair shows by itself (document 01, "Store verdict"; judge.rs): the numbers its slots count for, its winner, and the slot
--- opposite the winner. Codes and facts are document 01's.
+-- What a pair shows by itself (docs/FORMAT.md, "The store verdict"; judge.rs): the numbers its slots count for, its winner, and the slot
+-- opposite the winner. Codes and facts are the numbers of a frame.
 use Rattle.std.specs.Prelude.{Bool, true, false, cond, ◌+◌, eqb, ltb, leb}
 use Rattle.slot.specs.declared.slot.SlotIndex.{SlotIndex}
 use Rattle.frame.specs.declared.frame.SlotPart.{SlotPart}

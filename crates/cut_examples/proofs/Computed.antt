@@ -1,5 +1,5 @@
 -- What is judged and read back after each cut of `CutExamples`, computed from the definitions without the theorem. The expected values
--- follow from document 01's rules. How each slot is read is computed first, and from that the frames, the verdicts and the records.
+-- follow from the rules of docs/FORMAT.md. How each slot is read is computed first, and from that the frames, the verdicts and the records.
 use Rattle.std.proofs.Common.{◌≡◌, refl, ◌∙◌, Bool, true, false, cond, List, [], ◌∷◌, ℕ, replicate}
 use Rattle.codec.specs.Bytes.{le, bytes, flag}
 use Rattle.codec.specs.Crc32c.{crc32c, finalRemainder, remainder, digest, reversed}

@@ -1,4 +1,4 @@
--- The checks of one entry by itself (document 01, refusals of `RawEntry::check`), in their order.
+-- The checks of one entry by itself (docs/FORMAT.md, "Entries"), in their order.
 use Rattle.std.specs.Prelude.{ℕ, ◌^◌}
 use Rattle.codec.specs.Outcome.{Outcome, given, refusal, and_then}
 use Rattle.region.specs.Error.{errorNumber}

@@ -1,4 +1,4 @@
--- A table entry of 96 bytes (document 01, "Volume record and pages"): as it is read, as it is written, and what is asked of an entry that
+-- A table entry of 96 bytes (docs/FORMAT.md, "Entries"): as it is read, as it is written, and what is asked of an entry that
 -- need not pass its checks.
 use Rattle.std.specs.Prelude.{List, ℕ, take, drop}
 use Rattle.codec.specs.Outcome.{Outcome, given, refusal, and_then}

@@ -1,4 +1,4 @@
-// Layer 2: a slot's header as it is read: its numbers in the order of the layout, then the checks of them in document 01's order, through every
+// Layer 2: a slot's header as it is read: its numbers in the order of the layout, then the checks of them in the order of the statuses, through every
 // one but the payload's CRC.
 #![tactic(auto)]
 

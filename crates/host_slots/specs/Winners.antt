@@ -1,4 +1,4 @@
--- The winner's payload (document 01, "Pair winner and payload") as a C host finds it: its slot (0 none, 1 A, 2 B), its start and its
+-- The winner's payload (docs/FORMAT.md, "The C interface") as a C host finds it: its slot (0 none, 1 A, 2 B), its start and its
 -- length in that slot.
 use Rattle.std.specs.Prelude.{List, ℕ}
 use Rattle.slot.specs.Read.{payloadStart, payloadLength}

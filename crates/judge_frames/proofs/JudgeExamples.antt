@@ -1,4 +1,4 @@
--- Document 01's example of `verdicts`, and refusals of the judge in their order, computed from the definitions.
+-- An example of `verdicts`, and refusals of the judge in their order, computed from the definitions.
 use Rattle.std.proofs.Common.{◌≡◌, refl, true, false, List, [], ◌∷◌, ◌++◌, ℕ, replicate}
 use Rattle.codec.specs.Bytes.{le}
 use Rattle.slot.specs.declared.slot.SlotIndex.{SlotIndex}

@@ -126,7 +126,7 @@ fn in_range(frames: &[u8], n: usize) -> bool
 
 // ---- a verdict
 
-// Document 01's numbers of a standing,
+// The numbers of a standing,
 pub fn standing_number(s: Standing) -> u8
     ensures { result ≡ standingNumber s }
 {

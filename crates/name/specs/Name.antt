@@ -1,4 +1,4 @@
--- A region's name: 1 to 24 bytes of UTF-8, no NUL; stored in 24 bytes, zeros behind it (document 01, refusal 35).
+-- A region's name: 1 to 24 bytes of UTF-8, no NUL; stored in 24 bytes, zeros behind it (docs/FORMAT.md, "Names").
 use Rattle.std.specs.Prelude.{Bool, false, cond, not, List, [], ◌∷◌, ◌++◌, ℕ, suc, ◌-◌, ltb, eqb, length, take, drop, replicate}
 use Rattle.codec.specs.Bytes.{allZero}
 use Rattle.codec.specs.Outcome.{Outcome, given, refusal}

@@ -1,4 +1,4 @@
--- What `encode_page` answers and writes (document 01, "Volume record and pages", and its refusals of `encode_page`): the page's layout
+-- What `encode_page` answers and writes (docs/FORMAT.md, "Pages" and "Refusals"): the page's layout
 -- as bytes one after the other; and which pages are acceptable.
 use Rattle.std.specs.Prelude.{◌≡◌, false, cond, not, List, [], ◌∷◌, ◌++◌, ℕ, zero, suc, ◌+◌, ◌*◌, ◌/◌, ◌%◌, ◌^◌, ◌≤◌, ◌<◌, ltb, eqb, length, take, drop, replicate}
 use Rattle.codec.specs.Bytes.{bytes16, bytes32, put}

@@ -1,4 +1,4 @@
--- What `decide` and the questions to its report answer (document 01, "Pair winner and payload").
+-- What `decide` and the questions to its report answer (docs/FORMAT.md, "Pairs").
 use Rattle.std.specs.Prelude.{Bool, true, false, cond, not, ◌&&◌, ◌-◌, ltb, eqb}
 use Rattle.slot.specs.Status.{other, code, validInfo}
 use Rattle.slot.specs.declared.slot.SlotIndex.{SlotIndex}

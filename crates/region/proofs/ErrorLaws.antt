@@ -1,4 +1,4 @@
--- The number of a refusal fixes its case: two refusals with the same number of document 01 are the same.
+-- The number of a refusal fixes its case: two refusals with the same number are the same.
 use Rattle.std.proofs.Common.{◌≡◌, refl, sym, ap, ◌∙◌, Bool, true, false, cond, ℕ, ◌≤◌, arith, ne_eqb, leb-false, ltb-true, leb, ltb, eqb}
 use Rattle.region.specs.Error.{fieldNumber, errorNumber}
 use Rattle.region.specs.declared.meta.MetaError.{MetaError}
@@ -20,7 +20,7 @@ own n = low (ltb n 11) refl
     low true test = let is = ltb-true n 11 test in Own.under (simp test) (omega arith)
     low false test = high (leb n 13) refl test
 
--- The case that a number of document 01 belongs to.
+-- The case that a refusal's number belongs to.
 abbrev case_of : ℕ → MetaError
 case_of n =
     cond (eqb n 11) MetaError.Length

@@ -1,4 +1,4 @@
--- What `validate` and `header_facts` answer for any bytes (document 01, "Slot status"): the header by offsets, and the checks in their
+-- What `validate` and `header_facts` answer for any bytes (docs/FORMAT.md, "Slot status" and "Header facts"): the header by offsets, and the checks in their
 -- order, each with the status that it fails with.
 use Rattle.std.specs.Prelude.{Bool, false, cond, not, List, [], ◌∷◌, ◌++◌, ℕ, ◌+◌, ◌-◌, ◌^◌, leb, ltb, eqb, length, get_or, take, drop, replicate}
 use Rattle.codec.specs.Bytes.{le16, le32, le64, same, allZero}

@@ -1,4 +1,4 @@
--- Document 01's numbers and values for each case of the slot's enums.
+-- The numbers and values of each case of the slot's enums (docs/FORMAT.md, "Slot status" and "Header facts").
 use Rattle.std.specs.Prelude.{Bool, true, false, List, [], ◌∷◌, ℕ, replicate}
 use Rattle.slot.specs.declared.slot.SlotIndex.{SlotIndex}
 use Rattle.slot.specs.declared.slot.SlotInfo.{SlotInfo}

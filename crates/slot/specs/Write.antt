@@ -1,4 +1,4 @@
--- What `encode` writes (document 01, "Slot status", and its refusals 1 to 5): the same layout, as bytes one after the other.
+-- What `encode` writes, and its refusals 1 to 5 (docs/FORMAT.md, "Writing a slot"): the same layout, as bytes one after the other.
 use Rattle.std.specs.Prelude.{cond, not, List, ◌++◌, ℕ, ◌+◌, ◌-◌, ◌^◌, ltb, eqb, length, replicate}
 use Rattle.codec.specs.Bytes.{bytes, bytes16, bytes32, bytes64}
 use Rattle.codec.specs.Crc32c.{crc32c}

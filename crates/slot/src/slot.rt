@@ -155,7 +155,7 @@ pub enum SlotStatus {
 }
 
 impl SlotStatus {
-    // Document 01's number of the status.
+    // The number of the status.
     pub fn code(self) -> u8
         ensures { result ≡ code self }
     {

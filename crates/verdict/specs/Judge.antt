@@ -1,4 +1,4 @@
--- The verdict on the whole store (document 01, "Store verdict"; judge.rs): two passes over the row of its pairs. Pair 0 is the volume
+-- The verdict on the whole store (docs/FORMAT.md, "The store verdict"; judge.rs): two passes over the row of its pairs. Pair 0 is the volume
 -- record, the others are table pages.
 use Rattle.std.specs.Prelude.{Bool, true, false, cond, not, List, [], ◌∷◌, ℕ, suc, ◌+◌, ◌*◌, eqb}
 use Rattle.slot.specs.declared.slot.SlotIndex.{SlotIndex}

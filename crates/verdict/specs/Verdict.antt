@@ -1,4 +1,4 @@
--- The verdict on one pair after the first pass, and document 01's numbers for it.
+-- The verdict on one pair after the first pass, and its numbers (docs/FORMAT.md, "The store verdict").
 use Rattle.std.specs.Prelude.{Bool, true, false, cond, List, [], ◌∷◌, ℕ}
 use Rattle.slot.specs.declared.slot.SlotIndex.{SlotIndex}
 use Rattle.slot.specs.Status.{slotNumber, other}

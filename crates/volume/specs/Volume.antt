@@ -1,5 +1,5 @@
--- The volume record of format 2, 64 bytes (document 01, "Volume record and pages", and its refusals of volume decode, table end and
--- file length): the checks in their order, and the bytes as they are written.
+-- The volume record of format 2, 64 bytes (docs/FORMAT.md, "The volume record", and "Refusals" of its decoding, the table's end and
+-- the file's length): the checks in their order, and the bytes as they are written.
 use Rattle.std.specs.Prelude.{◌≡◌, cond, not, List, ◌++◌, ℕ, ◌+◌, ◌*◌, ◌^◌, ◌≤◌, ◌<◌, leb, ltb, eqb, length, take}
 use Rattle.codec.specs.Bytes.{le32, le64, flag}
 use Rattle.codec.specs.Outcome.{Outcome, given, refusal, and_then}
