@@ -23,6 +23,8 @@ other SlotIndex.A = SlotIndex.B
 other SlotIndex.B = SlotIndex.A
 
 -- Slot status codes.
+-- 0 is set by the host alone, for a slot that it could not read. 4 and 11 are what a write leaves that was cut in its header or in its
+-- payload.
 abbrev pub code : SlotStatus → ℕ
 code SlotStatus.ReadError = 0
 code SlotStatus.BadLength = 1

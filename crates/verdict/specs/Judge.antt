@@ -1,5 +1,5 @@
--- The verdict on the whole store (docs/FORMAT.md, "The store verdict"; judge.rs): two passes over the row of its pairs. Pair 0 is the volume
--- record, the others are table pages.
+-- The verdict on the whole store (docs/FORMAT.md, "The store verdict"; judge.rs): two passes over the row of its pairs. Pair 0 is the
+-- volume record, the others are table pages.
 use Rattle.std.specs.Prelude.{Bool, true, false, cond, not, List, [], ◌∷◌, ℕ, suc, ◌+◌, ◌*◌, eqb}
 use Rattle.slot.specs.declared.slot.SlotIndex.{SlotIndex}
 use Rattle.frame.specs.declared.frame.SlotPart.{SlotPart}
@@ -61,10 +61,15 @@ firstTally ps vs =
 -- ---- the second pass
 
 -- The clean mark counts if the volume record is Confirmed with no candidate of its own.
+-- Under it the last writer closed the store, so no write was in flight. A volume record that is itself being written may carry an old
+-- mark.
 unfoldable pub cleanMark : Bool → PairVerdict → Bool
 cleanMark clean volume = cond (confirmed volume.standing) (cond (inFlight volume) false clean) false
 
 -- Which writes in flight are demoted to damage, from the first pass.
+-- A power cut tears one write: of two candidates at least one is damage. Damage elsewhere may hide the true highest number, and then
+-- to heal a page could undo a record that was durable. The volume record is healed in a troubled store as well: what its writes change is
+-- the clean mark and the owner generation, and each opening for writing writes it again, so nothing is undone.
 unfoldable pub storeRules : Bool → Tally → PairVerdict → StoreRules
 storeRules clean t volume =
     record {
@@ -109,6 +114,7 @@ heal i [] = Heal.Nothing
 heal i (v ∷ vs) = or_else (heal (i + 1) vs) (pairHeal i v)
 
 -- From the volume record's standing after the first pass and after the second.
+-- A write of the volume record would remove the evidence by which a page's candidate was judged.
 unfoldable pub writable : Bool → Bool → Standing → Standing → Bool
 writable anyRefused pageCandidate first last =
     cond anyRefused false (cond (withoutWinner first) false (cond (unconfirmed last) (not pageCandidate) true))
