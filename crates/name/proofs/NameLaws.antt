@@ -3,7 +3,7 @@ use Rattle.std.proofs.Common.{◌≡◌, refl, sym, ap, ◌∙◌, Bool, true, f
 use borrow.Author.Tests.{eqb-false, not-false}
 use Rattle.std.proofs.Math.ListN.{length-replicate, replicate-append-replicate}
 use Rattle.codec.specs.Bytes.{allZero, put}
-use Rattle.codec.specs.Outcome.{given}
+use Rattle.codec.specs.Outcome.{Outcome, given, refusal}
 use Rattle.codec.proofs.CursorLaws.{put-prefix}
 use Rattle.name.specs.Utf8.{utf8}
 use Rattle.name.specs.Scalar.{Encoded}
@@ -105,6 +105,20 @@ module _ (raw : List ℕ) where
 
   abbrev padding : List ℕ
   padding = drop (zeroAt raw) raw
+
+  -- Stored bytes that are no name are 35.
+  pub padded_refused : {number : ℕ} → padded raw ≡ refusal number → padded raw ≡ nameRefused
+  unfolding padded named
+  padded_refused {number} is = go (allZero padding) (nameOk text) is
+    where
+      name : Outcome RegionName
+      name = given (stored text)
+
+      go : (zeros ok : Bool) → cond zeros (cond ok name nameRefused) nameRefused ≡ refusal number
+          → cond zeros (cond ok name nameRefused) nameRefused ≡ nameRefused
+      go true true is = let never : ◌≡◌ {A = ℕ} 0 1 = cc in absurd (omega arith)
+      go true false is = refl
+      go false ok is = refl
 
   -- A name that is read from 24 bytes is stored as these bytes.
   pub padded-bytes : {name : RegionName} → padded raw ≡ given name → length raw ≡ 24 → name.bytes ≡ raw
