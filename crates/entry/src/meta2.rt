@@ -24,7 +24,7 @@ ghost use Rattle.region.specs.Block.{blockSize};
 ghost use Rattle.region.specs.Error.{checkOutcome, encodedOutcome, fitted};
 ghost use Rattle.name.specs.Name.{padded};
 ghost use Rattle.entry.specs.Entry.{entryRead, rawOutcome, entryBytes, foundName, nameAndKind, foundBoth, reservedSpan, toRaw};
-ghost use Rattle.entry.specs.Check.{placesCheck, entryOutcome, checkEntry};
+ghost use Rattle.entry.specs.Check.{placesCheck, entryOutcome, checkEntry, EntriesBack};
 
 use crate::layout::{
     EntryFront, EntryFrontRead, EntryPlaces, EntryPlacesRead, read_front, read_places, write_parts,
@@ -354,3 +354,9 @@ fn check_places(e: RawEntry, kind: RegionKind, lim: EntryLimits) -> Check
     };
     check_sizes(kind, e.capacity, e.data_size, lim.log2_block)
 }
+
+// Does nothing: its contract is the round trip of entries.
+#[tactic(auto, using(crate::proofs::EntryLaws::entries_back))]
+pub fn round_trip()
+    ensures { EntriesBack }
+{}
