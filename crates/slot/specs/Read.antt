@@ -1,9 +1,9 @@
 -- What `validate` and `header_facts` answer for any bytes (docs/FORMAT.md, "Slot status" and "Header facts"): the header by offsets, and
 -- the checks in their order, each with the status that it fails with.
-use Rattle.std.specs.Prelude.{Bool, false, cond, not, List, [], ◌∷◌, ◌++◌, ℕ, ◌+◌, ◌-◌, ◌^◌, leb, ltb, eqb, length, get_or, take, drop, replicate}
+use Rattle.std.specs.Prelude.{◌≡◌, ◌≤◌, Bool, false, cond, not, List, [], ◌∷◌, ◌++◌, ℕ, ◌+◌, ◌-◌, ◌^◌, leb, ltb, eqb, length, get_or, take, drop, replicate}
 use Rattle.codec.specs.Bytes.{le16, le32, le64, same, allZero}
 use Rattle.codec.specs.Crc32c.{crc32c}
-use Rattle.slot.specs.Status.{indexNumber}
+use Rattle.slot.specs.Status.{indexNumber, code}
 use Rattle.slot.specs.declared.slot.Expect.{Expect}
 use Rattle.slot.specs.declared.slot.SlotInfo.{SlotInfo}
 use Rattle.slot.specs.declared.slot.SlotStatus.{SlotStatus}
@@ -171,3 +171,20 @@ headerFacts s e =
     cond (not (lengthOk (length s) e.log2_slot_size)) HeaderFacts.Nothing
     (cond (allZero (take 128 s)) HeaderFacts.Nothing
     (cond (not (same (take 8 s) magic)) HeaderFacts.Nothing (facts (le32 s 8) (parseHeader s e))))
+
+-- Two slots of one length that agree in their first m bytes, at least 128 and at least as many as their header says it has.
+pub record SameHeader (m : ℕ) (s t : List ℕ) : Type 0 where
+  pub same : take m s ≡ take m t
+  pub least : 128 ≤ m
+  pub whole : le16 s 12 ≤ m
+  pub sizes : length s ≡ length t
+
+-- Such slots show the same, and have the same status where they have the same payload: the bytes behind the payload do not count.
+pub record PaddingLaw : Type 0 where
+  pub facts-same : (m : ℕ) (s t : List ℕ) → SameHeader m s t → (e : Expect) → headerFacts s e ≡ headerFacts t e
+  pub status-same : (m : ℕ) (s t : List ℕ) → SameHeader m s t → (e : Expect)
+      → ((i : SlotInfo) (crc : ℕ) → parseHeader s e ≡ Parsed.Passed i crc → payload i s ≡ payload i t) → validate s e ≡ validate t e
+
+-- A slot's status is 1 to 12: ReadError is set by the host alone.
+abbrev pub StatusRange : Type 0
+StatusRange = (s : List ℕ) (e : Expect) → (1 ≤ code (validate s e)) × (code (validate s e) ≤ 12)

@@ -1,6 +1,6 @@
 -- The verdict on the whole store (docs/FORMAT.md, "The store verdict"; judge.rs): two passes over the row of its pairs. Pair 0 is the
 -- volume record, the others are table pages.
-use Rattle.std.specs.Prelude.{Bool, true, false, cond, not, List, [], ◌∷◌, ℕ, suc, ◌+◌, ◌*◌, eqb}
+use Rattle.std.specs.Prelude.{◌≡◌, Bool, true, false, cond, not, List, [], ◌∷◌, ℕ, zero, suc, ◌+◌, ◌*◌, eqb}
 use Rattle.slot.specs.declared.slot.SlotIndex.{SlotIndex}
 use Rattle.frame.specs.declared.frame.SlotPart.{SlotPart}
 use Rattle.candidate.specs.declared.pairs.PairPart.{PairPart}
@@ -144,3 +144,16 @@ judgeRow ps clean =
       clean = (rowRules ps clean).clean;
       refused = anyRefused (firstVerdicts ps);
     }
+
+-- The verdict on a slot of the kth pair; Damage where there is no such pair.
+abbrev pub slot_at : List PairVerdict → ℕ → SlotIndex → SlotVerdict
+slot_at [] k index = SlotVerdict.Damage
+slot_at (v ∷ vs) zero index = byIndex index v.a v.b
+slot_at (v ∷ vs) (suc k) index = slot_at vs k index
+
+-- A slot is named for healing if and only if its last verdict is InFlight.
+abbrev pub HealNames : Type 0
+HealNames =
+    (ps : List PairPart) (clean : Bool) (k : ℕ) (index : SlotIndex)
+    → ((judgeRow ps clean).heal ≡ Heal.Slot k index → slot_at (verdicts ps clean) k index ≡ SlotVerdict.InFlight)
+    × (slot_at (verdicts ps clean) k index ≡ SlotVerdict.InFlight → (judgeRow ps clean).heal ≡ Heal.Slot k index)
