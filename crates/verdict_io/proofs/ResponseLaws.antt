@@ -1,5 +1,5 @@
 -- An output of 5,633 bytes has room for every answer, which then stands at its front.
-use Rattle.std.proofs.Common.{◌≡◌, refl, ap, Bool, cond, ℕ, ◌+◌, ◌≤◌, arith, List, ◌++◌, length, take, drop, leb}
+use Rattle.std.proofs.Common.{◌≡◌, refl, ap, Bool, cond, ℕ, ◌+◌, ◌≤◌, arith, List, length, take, drop, leb}
 use Rattle.std.proofs.lemmas.List.{take_at, length-append}
 use Rattle.codec.specs.Bytes.{put}
 use Rattle.verdict_text.specs.declared.Responded.{Responded}

@@ -1,13 +1,13 @@
 -- What single reads and writes give together, and that the answer to what is held is the answer to the whole text.
-use Rattle.std.proofs.Common.{◌≡◌, refl, sym, ◌∙◌, ap, subst, Bool, true, false, ℕ, ◌+◌, ◌-◌, ◌<◌, ◌≤◌, min, arith, List, ◌++◌, length, take, drop, Some, None, IfSome, ltb, nat_eq}
-use Rattle.std.proofs.lemmas.List.{drop_all, drop-drop, length-take, length-drop, length-take-le, take-append-le, take_rest}
-use Rattle.std.proofs.lemmas.Bool.{le-ltb, ltb-true, ltb-false, eq-eqb}
+use Rattle.std.proofs.Common.{◌≡◌, refl, sym, ◌∙◌, ap, subst, Bool, true, false, ℕ, ◌+◌, ◌-◌, ◌≤◌, min, arith, List, ◌++◌, length, take, drop, Some, None, IfSome, ltb, nat_eq}
+use Rattle.std.proofs.lemmas.List.{drop-drop, length-take, length-drop, length-take-le, take-append-le, take_rest}
+use Rattle.std.proofs.lemmas.Bool.{ltb-true, ltb-false, eq-eqb}
 use Rattle.std.proofs.Math.Seq.{take-add, take-append-add}
 use borrow.Rule.Slice.PartMut.{put_mid, post_of}
 use Rattle.std.specs.declared.option.Option.{Option}
 use Rattle.verdict_text.specs.Text.{responseText, answerText}
 use Rattle.verdict_text.proofs.ResponseLaws.{text-held}
-use Rattle.verdict_io.specs.Answer.{Loses, LosesFewer}
+use Rattle.verdict_io.specs.Answer.{Loses}
 use Rattle.verdict_io.specs.Steps.{Fills, Reads}
 
 -- ---- one read, one write

@@ -1,6 +1,6 @@
 -- What an answer leaves of the text that a reader has, and what it adds to the bytes that a writer holds, by what became of it. Both are
 -- known of readers and writers in memory; of others nothing is claimed but that they are called in this way.
-use Rattle.std.specs.Prelude.{◌≡◌, ℕ, ◌<◌, List, length, take, drop, IfSome, Some, ⊤}
+use Rattle.std.specs.Prelude.{◌≡◌, ℕ, ◌<◌, List, length, take, drop, IfSome, Some}
 use Rattle.std.specs.declared.option.Option.{Option}
 use Rattle.std.specs.declared.result.Result.{Result}
 use Rattle.std.specs.declared.result.Result.TheVariants.{Ok, Err}

@@ -76,10 +76,9 @@ fn fill<R: Read>(input: &mut R, buffer: &mut [u8]) -> io::Result<usize>
 {
     let mut held = 0;
     while held < buffer.len() {
-        match read_some(input, &mut buffer[held..]) {
-            Ok(0) => return Ok(held),
-            Ok(n) => held += n,
-            Err(error) => return Err(error),
+        match read_some(input, &mut buffer[held..])? {
+            0 => return Ok(held),
+            n => held += n,
         }
     }
     Ok(held)
@@ -108,10 +107,9 @@ fn put<W: Write>(output: &mut W, bytes: &[u8]) -> io::Result<()>
 {
     let mut done = 0;
     while done < bytes.len() {
-        match write_some(output, &bytes[done..]) {
-            Ok(0) => return Err(ErrorKind::WriteZero.into()),
-            Ok(n) => done += n,
-            Err(error) => return Err(error),
+        match write_some(output, &bytes[done..])? {
+            0 => return Err(ErrorKind::WriteZero.into()),
+            n => done += n,
         }
     }
     Ok(())

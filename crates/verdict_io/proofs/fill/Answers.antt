@@ -8,5 +8,5 @@ use Rattle.verdict_io.proofs.fill.Goals as goal
 pub loop-held-preserved : goal.loop-held-preserved
 loop-held-preserved g c =
     let room = length c.loop-held.buffer - c.loop-held.held in
-    let grown = filled c.loop-held.held room c.in-Ok.n c.loop-held.buffer c.read_some.new.buffer c.loop-held.invariant.1 c.in-Ok.ensures.bound.0 in
-    (search rules, search rules, subst (Consumes _ _) (sym grown) (Consumes-trans _ _ _ _ _ c.loop-held.invariant.2 c.in-Ok.ensures.bytes.0))
+    let grown = filled c.loop-held.held room c.in_ok-n.n c.loop-held.buffer c.read_some.new.buffer c.loop-held.invariant.1 c.in_ok-n.ensures.bound.0 in
+    (search rules, search rules, subst (Consumes _ _) (sym grown) (Consumes-trans _ _ _ _ _ c.loop-held.invariant.2 c.in_ok-n.ensures.bytes.0))

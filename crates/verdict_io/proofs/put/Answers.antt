@@ -7,5 +7,5 @@ use Rattle.verdict_io.proofs.put.Goals as goal
 
 pub loop-done-preserved : goal.loop-done-preserved
 loop-done-preserved g c =
-    let grown = taken c.loop-done.done c.in-Ok.n c.args.bytes.now in
-    (search rules, subst (Appends _ _) (sym grown) (Appends-trans _ _ _ _ _ c.loop-done.invariant.1 c.in-Ok.ensures.bytes))
+    let grown = taken c.loop-done.done c.in_ok-n.n c.args.bytes.now in
+    (search rules, subst (Appends _ _) (sym grown) (Appends-trans _ _ _ _ _ c.loop-done.invariant.1 c.in_ok-n.ensures.bytes))

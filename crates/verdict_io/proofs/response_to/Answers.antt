@@ -1,6 +1,5 @@
 -- The output has room, so that the answer is written, to its front.
 use Rattle.std.proofs.Common.{◌≡◌, sym, ◌∙◌, ap, length}
-use Rattle.codec.specs.Bytes.{put}
 use Rattle.verdict_text.specs.declared.Responded.{Responded}
 use Rattle.verdict_text.specs.Text.{responseText}
 use Rattle.verdict_io.proofs.ResponseLaws.{count, responded_there, response_there, put_front, put_long}
