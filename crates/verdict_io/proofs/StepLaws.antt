@@ -35,13 +35,13 @@ reads_more (Some text) mid new n k buffer next one within first second =
     let behind = subst P first.1 second in
     let held : length (take k next) ≡ k = length-take-le k next within in
     let count : k ≡ min (length next) (length text - length buffer) =
-        sym held ∙ ap (λ l. length l) behind.0 ∙ length-take (length next) (drop (length buffer) text) ∙ ap (λ m. min (length next) m) (length-drop (length buffer) text) in
+    sym held ∙ ap (λ l. length l) behind.0 ∙ length-take (length next) (drop (length buffer) text) ∙ ap (λ m. min (length next) m) (length-drop (length buffer) text) in
     let go : (longer : Bool) → ltb (length buffer) (length text) ≡ longer → nat_eq k 1 ≡ longer =
-        λ longer. elim longer as (λ b. ltb (length buffer) (length text) ≡ b → nat_eq k 1 ≡ b) [
-          true ↦ (λ is. let past = ltb-true (length buffer) (length text) is in eq-eqb k 1 (grind (arith, count, past, one)))
-        | false ↦ (λ is. let past = ltb-false (length buffer) (length text) is in
-              let none : k ≡ 0 = grind (arith, count, past, one) in ap (λ j. nat_eq j 1) none)
-        ] in
+    λ longer. elim longer as (λ b. ltb (length buffer) (length text) ≡ b → nat_eq k 1 ≡ b) [
+      | true ↦ (λ is. let past = ltb-true (length buffer) (length text) is in eq-eqb k 1 (grind (arith, count, past, one)))
+      | false ↦ (λ is. let past = ltb-false (length buffer) (length text) is in
+          let none : k ≡ 0 = grind (arith, count, past, one) in ap (λ j. nat_eq j 1) none)
+    ] in
     (first.0, go (ltb (length buffer) (length text)) refl, behind.1 ∙ ap (λ j. Some (drop j (drop (length buffer) text))) one ∙ ap (λ l. Some l) (drop-drop 1 (length buffer) text))
 
 -- ---- the answer

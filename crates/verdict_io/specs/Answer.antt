@@ -1,5 +1,5 @@
--- What an answer leaves of the text that a reader has, and what it adds to the bytes that a writer holds, by what became of it. Both are
--- known of readers and writers in memory; of others nothing is claimed but that they are called in this way.
+-- What an answer leaves of the text that a reader has, and what it adds to the bytes that a writer holds, by what became of it
+-- (docs/FORMAT.md, "The program verdicts"). Readers and writers in memory say what they have and hold; of others these facts claim nothing.
 use Rattle.std.specs.Prelude.{◌≡◌, ℕ, ◌<◌, List, length, take, drop, IfSome, Some}
 use Rattle.std.specs.declared.option.Option.{Option}
 use Rattle.std.specs.declared.result.Result.{Result}

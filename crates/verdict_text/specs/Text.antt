@@ -36,6 +36,7 @@ longer held more = more || ltb 65536 held
 unfoldable pub responseText : List ℕ → Bool → List ℕ
 responseText text more = cond (longer (length text) more) (refusalLine 11) (linesText (lines text))
 
--- What is printed for a whole text: 11 where it has more than 65,536 bytes, else what its lines give.
+-- What is printed for a whole text: 11 where it has more than 65,536 bytes, else what its lines give
+-- (docs/FORMAT.md, "The program verdicts").
 unfoldable pub answerText : List ℕ → List ℕ
 answerText text = if ltb 65536 (length text) then refusalLine 11 else linesText (lines text)

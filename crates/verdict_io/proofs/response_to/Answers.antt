@@ -8,7 +8,7 @@ use Rattle.verdict_io.proofs.response_to.Goals as goal
 pub unreachable-requires : goal.unreachable-requires
 unreachable-requires c =
     let never : Responded.NoRoom ≡ Responded.Bytes (length (responseText c.args.text.now c.args.more)) =
-        sym c.in-NoRoom.is ∙ c.respond.ensures.value ∙ responded_there c.args.text.now c.args.more _ c.told-response in
+    sym c.in-NoRoom.is ∙ c.respond.ensures.value ∙ responded_there c.args.text.now c.args.more _ c.told-response in
     cc
 
 pub returns-clause-bound : goal.returns-clause-bound
