@@ -6,7 +6,7 @@ use Rattle.verdict_text.specs.declared.Responded.{Responded}
 use Rattle.verdict_text.specs.Read.{withLine, lines, mark_of, framesOf}
 use Rattle.verdict_text.specs.Stride.{markAt, markLine, framesIn}
 use Rattle.text_write.specs.Write.{refusalLine}
-use Rattle.verdict_text.specs.Text.{framesText, linesText, longer, responseText}
+use Rattle.verdict_text.specs.Text.{framesText, linesText, longer, responseText, answerText}
 use Rattle.verdict_text.specs.Respond.{responseRoom, responded, respondedOut}
 use Rattle.verdict_text.proofs.ReadLaws.{framesRead, frames-lines, mark-first, mark-found}
 
@@ -50,13 +50,13 @@ module _ (s : List ℕ) (more : Bool) where
         rw (fits, first.1) (rw (first.0, frames-lines) at behind)
 
 -- The first 65,536 bytes of a text and whether it has more give the answer to the whole text.
-pub text-held : (text : List ℕ) → responseText (take 65536 text) (ltb 65536 (length text)) ≡ responseText text false
-unfolding responseText
+pub text-held : (text : List ℕ) → responseText (take 65536 text) (ltb 65536 (length text)) ≡ answerText text
+unfolding responseText answerText
 text-held text = go (ltb 65536 (length text)) refl
   where
-    go : (more : Bool) → ltb 65536 (length text) ≡ more → responseText (take 65536 text) more ≡ responseText text false
-    go true long = rw long
-    go false fits = rw (take_all 65536 text (ltb-false _ _ fits))
+    go : (more : Bool) → ltb 65536 (length text) ≡ more → responseText (take 65536 text) more ≡ cond more (refusalLine 11) (linesText (lines text))
+    go true long = refl
+    go false fits = rw (take_all 65536 text (ltb-false _ _ fits), fits)
 
 -- What a text t that was written is as an answer.
 pub response-done : {r : ℕ} {t new : List ℕ} (s : List ℕ) (more : Bool) (out : List ℕ) → responseRoom ≤ length out → responseText s more ≡ t

@@ -1,5 +1,5 @@
 -- The text of program `verdicts` (docs/FORMAT.md, "The program verdicts"): what it prints for the text that it reads.
-use Rattle.std.specs.Prelude.{Bool, cond, ◌||◌, List, [], ◌∷◌, ℕ, ◌*◌, eqb, leb, ltb, length}
+use Rattle.std.specs.Prelude.{Bool, cond, if◌then◌else◌, ◌||◌, List, [], ◌∷◌, ℕ, ◌*◌, eqb, leb, ltb, length}
 use Rattle.std.proofs.Math.Option.{Option, some, none}
 use Rattle.verdict.specs.Verdict.{verdictBytes}
 use Rattle.verdict.specs.Judge.{verdicts, judgeRow}
@@ -35,3 +35,8 @@ longer held more = more || ltb 65536 held
 -- 11 for a longer text, then what its lines give.
 unfoldable pub responseText : List ℕ → Bool → List ℕ
 responseText text more = cond (longer (length text) more) (refusalLine 11) (linesText (lines text))
+
+-- What is printed for a whole text: 11 where it has more than 65,536 bytes, else what its lines give
+-- (docs/FORMAT.md, "The program verdicts").
+unfoldable pub answerText : List ℕ → List ℕ
+answerText text = if ltb 65536 (length text) then refusalLine 11 else linesText (lines text)

@@ -24,10 +24,11 @@ const FRAME_LINE: usize = 2 * FRAME + 1;
 // The longest text that is read.
 const LONGEST: usize = 65536;
 
-// The most pairs in a text of `LONGEST` bytes, and the room that its answer takes.
+// The most pairs in a text of `LONGEST` bytes.
 const PAIRS: usize = 624;
 
-const ROOM: usize = PAIRS * VERDICT_LINE + LAST_LINE;
+/// The room that the answer to any text takes.
+pub const ROOM: usize = PAIRS * VERDICT_LINE + LAST_LINE;
 
 // What became of an answer.
 #[derive(Clone, Copy)]

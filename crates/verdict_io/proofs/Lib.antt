@@ -1,0 +1,2 @@
+pub mod StepLaws
+pub mod ResponseLaws

@@ -1,0 +1,2 @@
+pub mod Answer
+pub mod Steps

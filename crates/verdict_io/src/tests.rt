@@ -1,0 +1,146 @@
+// What a run leaves where a read or a write fails, or stops short. The store and its answer are those of the program's own files.
+use super::*;
+
+const MARK: &[u8] = b"00\n";
+
+const FIRST: &[u8] =
+    b"0c000100000000000000010000000000000011111111000000000200000000000000000000000000000000000000000000000000\n";
+
+const SECOND: &[u8] =
+    b"0c000200000000000000020000000000000022222222333333330401000000000000000000000000000000004444444400000000\n";
+
+const ANSWER: &[u8] = b"00010001\n00010003\n0201000000010000\n";
+
+#[derive(Clone, Copy)]
+enum Step {
+    Gives(&'static [u8]),
+    Fails(ErrorKind),
+}
+
+// A reader that takes a step a read, and is then at its end.
+#[derive(Drop)]
+struct Steps<'a>(&'a [Step]);
+
+impl Read for Steps<'_> {
+    fn read(&mut self, buffer: &mut [u8]) -> io::Result<usize> {
+        let Some((step, others)) = self.0.split_first() else {
+            return Ok(0);
+        };
+        self.0 = others;
+        match *step {
+            Step::Gives(bytes) => {
+                let mut piece = bytes;
+                piece.read(buffer)
+            }
+            Step::Fails(kind) => Err(kind.into()),
+        }
+    }
+}
+
+// A writer that takes a byte a write, after a signal, and has room for so many.
+#[derive(Drop)]
+struct Room {
+    taken: Vec<u8>,
+    room: usize,
+    interrupted: bool,
+}
+
+impl Write for Room {
+    fn write(&mut self, bytes: &[u8]) -> io::Result<usize> {
+        self.interrupted = !self.interrupted;
+        if self.interrupted {
+            return Err(ErrorKind::Interrupted.into());
+        }
+        if self.taken.len() >= self.room {
+            return Err(ErrorKind::StorageFull.into());
+        }
+        let next = &bytes[..bytes.len().min(1)];
+        self.taken.extend_from_slice(next)?;
+        Ok(next.len())
+    }
+
+    fn flush(&mut self) -> io::Result<()> {
+        Ok(())
+    }
+}
+
+// The kind of the read that failed.
+fn read_failure(answered: Result<(), AnswerError>) -> Option<ErrorKind> {
+    match answered {
+        Err(AnswerError::Read(error)) => Some(error.kind()),
+        _ => None,
+    }
+}
+
+fn write_failure(answered: Result<(), AnswerError>) -> Option<ErrorKind> {
+    match answered {
+        Err(AnswerError::Write(error)) => Some(error.kind()),
+        _ => None,
+    }
+}
+
+#[test]
+fn answers_a_text_in_pieces(rt: HostRuntime) {
+    let steps = [
+        Step::Gives(MARK),
+        Step::Fails(ErrorKind::Interrupted),
+        Step::Gives(FIRST),
+        Step::Gives(SECOND),
+    ];
+    let mut output = Vec::new(rt.alloc());
+    assert!(rt; answer(&mut Steps(&steps), &mut output).is_ok());
+    assert_eq!(rt; output.as_slice(), ANSWER);
+}
+
+// Without the third line the text is a good store too.
+#[test]
+fn judges_nothing_where_a_read_fails(rt: HostRuntime) {
+    let steps = [
+        Step::Gives(MARK),
+        Step::Gives(FIRST),
+        Step::Fails(ErrorKind::ConnectionReset),
+        Step::Gives(SECOND),
+    ];
+    let mut output = Vec::new(rt.alloc());
+    let result = answer(&mut Steps(&steps), &mut output);
+    assert_eq!(rt; read_failure(result), Some(ErrorKind::ConnectionReset));
+    assert_eq!(rt; output.len(), 0);
+}
+
+// The read that asks whether the text goes on.
+#[test]
+fn asks_behind_a_full_buffer(rt: HostRuntime) {
+    let text = [0u8; 65536];
+    let fails = [Step::Fails(ErrorKind::ConnectionReset)];
+    let mut output = Vec::new(rt.alloc());
+    let result = answer(&mut text.as_slice().chain(Steps(&fails)), &mut output);
+    assert_eq!(rt; read_failure(result), Some(ErrorKind::ConnectionReset));
+    assert_eq!(rt; output.len(), 0);
+    let more = [Step::Gives(b"0"), Step::Fails(ErrorKind::ConnectionReset)];
+    assert!(rt; answer(&mut text.as_slice().chain(Steps(&more)), &mut output).is_ok());
+    assert_eq!(rt; output.as_slice(), b"R11\n".as_slice());
+}
+
+#[test]
+fn tells_a_write_that_fails(rt: HostRuntime) {
+    let mut output = Room {
+        taken: Vec::new(rt.alloc()),
+        room: 3,
+        interrupted: false,
+    };
+    let result = answer(&mut Steps(&[Step::Gives(MARK)]), &mut output);
+    assert_eq!(rt; write_failure(result), Some(ErrorKind::StorageFull));
+    assert_eq!(rt; output.taken.as_slice(), b"R08".as_slice());
+    output.room = 7;
+    assert!(rt; answer(&mut Steps(&[Step::Gives(MARK)]), &mut output).is_ok());
+    assert_eq!(rt; output.taken.as_slice(), b"R08R08\n".as_slice());
+}
+
+// A writer that takes nothing.
+#[test]
+fn tells_a_write_of_nothing(rt: HostRuntime) {
+    let mut room = [0u8; 3];
+    let result = answer(&mut Steps(&[Step::Gives(MARK)]), &mut room.as_mut_slice());
+    assert_eq!(rt; write_failure(result), Some(ErrorKind::WriteZero));
+    assert_eq!(rt; room.as_slice(), b"R08".as_slice());
+}
