@@ -1,4 +1,4 @@
-// Judges a store by the frames of its pairs (docs/FORMAT.md, "The program verdicts"): `verdict_io::answer` between standard input and output.
+// Judges a store by the frames of its pairs (docs/FORMAT.md, "The program verdicts"), between standard input and standard output.
 #![tactic(auto)]
 
 use std::process::ExitCode;
