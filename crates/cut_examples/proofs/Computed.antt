@@ -167,7 +167,7 @@ module _ (k : ℕ) (x : SlotRead) (read : readOnce (cut k newPage oldPage) first
       → judged pageRow 0 12 ≡ Judged.Done (record { heal = heal; writable = true; clean = false; refused = false })
       → judgedBytes pageRow 0 (replicate 12 0) ≡ verdict
       → Computed (pageWrite k) heal false verdict (volumeRecord false ∷ r ∷ pageRecord 1 0 ∷ [])
-  page-at = computed-row (pageWrite k) {mark = false} (more volume-pair (more page-pair (more second-page none))) (page-handed (pageWrite k) refl)
+  page-at = computed-row (pageWrite k) {mark = false} (more volume-pair (more page-pair (more second-page none))) (page-handed (pageWrite k) volumePair [] refl)
 
 -- The volume record's slot B after k bytes is read as x, and the judge is handed the mark.
 module _ (k : ℕ) (x : SlotRead) (read : readOnce (cut k markedBytes blankBytes) volumePair.b.expect ≡ x)
@@ -301,15 +301,15 @@ unfolding cut lengthOk parseHeader check integrity shape place numberOk payloadO
 other-computed =
     record {
       second-140 =
-          computed-row (secondWrite 140) {mark = false} (more volume-pair (more first-page (more second-pair none))) (page-handed (secondWrite 140) refl) refl refl;
+          computed-row (secondWrite 140) {mark = false} (more volume-pair (more first-page (more second-pair none))) (page-handed (secondWrite 140) volumePair (firstPage ∷ []) refl) refl refl;
       later-64 =
           computed-row (laterWrite 64) {mark = false}
           (more volume-pair (more (later-pair 64 (tornHeader 0xe83c_e718) refl refl refl) (more second-page none)))
-          (page-handed (laterWrite 64) refl) refl refl;
+          (page-handed (laterWrite 64) volumePair [] refl) refl refl;
       later-133 =
           computed-row (laterWrite 133) {mark = false}
           (more volume-pair (more (later-pair 133 (tornPayload 4 6 0xe83c_e718 0xd61e_00d0) refl refl refl) (more second-page none)))
-          (page-handed (laterWrite 133) refl) refl refl;
+          (page-handed (laterWrite 133) volumePair [] refl) refl refl;
     }
 
 -- ---- what the theorem leaves out
