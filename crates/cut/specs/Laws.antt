@@ -1,5 +1,5 @@
--- Laws on the words of the cut theorem. It would also hold of a store that always has the mark, of a decoder that accepts anything or of
--- a frame that holds less; these laws would not. Each is the contract of a function of src/lib.rt.
+-- Laws on the words of the cut theorem (docs/FORMAT.md, "The sound store and the cut"). It would also hold of a store that always has the
+-- mark, of a decoder that accepts anything or of a frame that holds less; these laws would not. Each is the contract of a function.
 use Rattle.std.specs.Prelude.{◌≡◌, true, false, List, [], ◌∷◌, ◌++◌, ℕ, get_or, take}
 use Rattle.codec.specs.Bytes.{le16, le32}
 use Rattle.codec.specs.Crc32c.{crc32c}

@@ -1,4 +1,5 @@
--- What is expected after each cut of the writes: from the rules of `validate`, of the judge and of the read-back.
+-- What is expected after each cut of the writes. The values follow from docs/FORMAT.md, "Slot status", "Header facts", "The store verdict"
+-- and "The winner's payload".
 use Rattle.std.specs.Prelude.{true, false, List, [], ◌∷◌, ℕ}
 use Rattle.slot.specs.declared.slot.SlotIndex.{SlotIndex}
 use Rattle.judge.specs.declared.SlotRead.{SlotRead}
