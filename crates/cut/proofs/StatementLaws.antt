@@ -18,7 +18,7 @@ use Rattle.volume.specs.declared.meta2.VolumeMeta2.{VolumeMeta2}
 use Rattle.volume.proofs.DecodeLaws.{volume-decoded}
 use Rattle.cut.specs.Store.{markBy, cleanMark, Slot, Pair, slot_at, status, report, filled, slotPart, pairPart, frames}
 use Rattle.cut.specs.Cut.{is_empty, handed, PayloadIs}
-use Rattle.cut.specs.Laws.{UnmarkedRecord, UnmarkedStore, PageHanded, TornHanded, WholeHanded, NothingGiven, zeroPart, PairFrame, OnePayload}
+use Rattle.cut.specs.Laws.{UnmarkedRecord, UnmarkedStore, PageHanded, TornHanded, WholeHanded, NothingGiven, ChecksumGiven, zeroPart, PairFrame, OnePayload}
 use Rattle.cut.proofs.PairLaws.{last-is}
 
 -- ---- the store's mark
@@ -57,6 +57,10 @@ whole-handed w before stands = rw (before, stands) refl
 pub nothing-given : NothingGiven
 unfolding filled
 nothing-given rest c not_valid = simp (ne_eqb _ _ not_valid)
+
+pub checksum-given : ChecksumGiven
+unfolding filled
+checksum-given rest c own not_valid = simp (ne_eqb _ _ not_valid)
 
 -- With zeros in the other fields a part is what `SlotPart::new` gives.
 filled-zeros : (st : SlotStatus) (f : HeaderFacts) → filled zeroPart (part_of st f) ≡ part_of st f

@@ -71,10 +71,16 @@ FailedPayload =
 
 -- ---- the frames
 
--- Where nothing is given, a part of a frame holds what the host left in it.
+-- Where nothing is given, a part of a frame holds what the host left in it,
 abbrev pub NothingGiven : Type 0
 NothingGiven =
     (rest : SlotPart) (c : ℕ) → (c ≡ 12 → ⊥) → filled rest (failedPart c HeaderFacts.Nothing) ≡ record rest { code = c; facts = 0 }
+
+-- and so it does in the other fields where only the own checksum is given.
+abbrev pub ChecksumGiven : Type 0
+ChecksumGiven =
+    (rest : SlotPart) (c own : ℕ) → (c ≡ 12 → ⊥)
+    → filled rest (failedPart c (HeaderFacts.Stored own)) ≡ record rest { code = c; facts = 1; header_crc32c = own }
 
 -- A host that leaves zeros there.
 abbrev pub zeroPart : SlotPart

@@ -8,7 +8,7 @@ ghost use Rattle.pair.specs.Numbers.{reportNumbers};
 ghost use Rattle.winner.specs.Winner.{readPair};
 ghost use Rattle.cut.specs.Store.{Pair};
 ghost use Rattle.cut.specs.Cut.{CutTheorem, PayloadIs};
-ghost use Rattle.cut.specs.Laws.{VolumeRefused, PageRefused, Encoded, UnmarkedRecord, UnmarkedStore, PageHanded, TornHanded, WholeHanded, FailedSum, FailedPayload, NothingGiven, PairFrame, OnePayload, HasSlots};
+ghost use Rattle.cut.specs.Laws.{VolumeRefused, PageRefused, Encoded, UnmarkedRecord, UnmarkedStore, PageHanded, TornHanded, WholeHanded, FailedSum, FailedPayload, NothingGiven, ChecksumGiven, PairFrame, OnePayload, HasSlots};
 
 use slot::slot::Expect;
 
@@ -49,6 +49,7 @@ pub fn no_accident()
 // The frames are the bytes that the library fills, with what the host left in the other fields.
 pub fn frames()
     ensures kept { NothingGiven }
+    ensures kept_beside_checksum { ChecksumGiven }
     ensures filled { PairFrame }
 {}
 
