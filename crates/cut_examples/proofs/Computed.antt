@@ -21,14 +21,14 @@ use Rattle.page_write.specs.Write.{headerBytes as pageHeaderBytes}
 use Rattle.volume_base.specs.Base.{baseBytes}
 use Rattle.volume_tail.specs.Tail.{tail_bytes}
 use Rattle.volume.specs.Volume.{volumeBytes}
-use Rattle.cut.specs.Store.{Volume, Page, accepts, cleanMark as recordMark, filled, slotRead}
+use Rattle.cut.specs.Store.{Every, Volume, Page, accepts, cleanMark as recordMark, filled, slotRead}
 use Rattle.cut.specs.Cut.{cut, left, withBytes, withSlot, standsWhole}
 use Rattle.cut.proofs.StatementLaws.{page-handed}
 use Rattle.cut_store.specs.Stores.{volumeRecord, pageRecord, volumeFields, volumePair, firstPage, secondFields, secondPage, laterPage}
 use Rattle.cut_store.specs.Writes.{pageWrite, volumeWrite, secondWrite, laterWrite}
 use Rattle.cut_store.proofs.CutExamples.{summedSlot, summed-is, none-refused, volume-sum, second-sum, volume-handed, oldPage, newPage, blankBytes, markedBytes, nextPage, newerSlot, laterSlot, old-page, new-page, new-volume, new-second, newer-slot, later-slot, page-accepted, volume-accepted}
 use Rattle.cut_examples.specs.Computed.{Computed, blankRead, badMagic, tornHeader, tornPayload, validRead}
-use Rattle.cut_examples.specs.Cuts.{oldRecords, newPageRecords, olderRead, tornPage, newRead, PageCuts, tornVolume, markedRead, VolumeCuts, MagicCuts, OtherCuts}
+use Rattle.cut_examples.specs.Cuts.{oldRecords, newPageRecords, olderRead, tornPage, newRead, PageCuts, tornVolume, markedRead, VolumeCuts, damagedVolume, MagicCuts, OtherCuts}
 use Rattle.cut_examples.proofs.SlotsRead.{PairRecord, more, none, readOnce, read-once, filledRow, pair-record, computed-row}
 
 -- ---- the slots that are not written, as they are read
@@ -240,18 +240,14 @@ other-computed =
 
 module _ (k : ℕ) (read : readOnce (cut k markedBytes blankBytes) volumePair.b.expect ≡ badMagic)
     (mark-is : cond (standsWhole (cut k markedBytes blankBytes) markedBytes (volumeRecord true)) (recordMark (volumeRecord true)) false ≡ false) where
-  magic-at : Computed (volumeWrite k) badMagic Heal.Nothing false (1 ∷ 1 ∷ 0 ∷ 4 ∷ 0 ∷ 2 ∷ 1 ∷ 0 ∷ 0 ∷ 1 ∷ 0 ∷ 1 ∷ []) oldRecords
+  magic-at : Computed (volumeWrite k) badMagic Heal.Nothing false damagedVolume oldRecords
   unfolding payloadOf payloadStart payloadLength headerBytes frontBytes identityBytes historyBytes volumeBytes baseBytes tail_bytes bytes le decide filled partBytes judged judgedBytes refusal judgeRow verdicts rowRules firstVerdicts firstTally writable storeRules cleanMark demoted pairHeal pairFrom partFrom partInRange pairInRange numbered badPayload badHeader blank oppositeSlot unsupported newer pairCase
   magic-at = volume-at k badMagic read refl refl volume-accepted.0 false mark-is refl refl
 
 pub magic-computed : MagicCuts
 unfolding cut lengthOk parseHeader check integrity headerBytes frontBytes identityBytes historyBytes volumeBytes baseBytes tail_bytes bytes le standsWhole
 magic-computed =
-    record {
-      volume-1 = magic-at 1 refl refl;
-      volume-2 = magic-at 2 refl refl;
-      volume-3 = magic-at 3 refl refl;
-      volume-4 = magic-at 4 refl refl;
-      volume-5 = magic-at 5 refl refl;
-      volume-6 = magic-at 6 refl refl;
-    }
+    Every.more (magic-at 1 refl refl)
+    (Every.more (magic-at 2 refl refl)
+    (Every.more (magic-at 3 refl refl)
+    (Every.more (magic-at 4 refl refl) (Every.more (magic-at 5 refl refl) (Every.more (magic-at 6 refl refl) Every.none)))))

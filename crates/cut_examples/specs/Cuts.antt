@@ -4,6 +4,7 @@ use Rattle.std.specs.Prelude.{true, false, List, [], ◌∷◌, ℕ}
 use Rattle.slot.specs.declared.slot.SlotIndex.{SlotIndex}
 use Rattle.judge.specs.declared.SlotRead.{SlotRead}
 use Rattle.verdict.specs.declared.verdict.Heal.{Heal}
+use Rattle.cut.specs.Store.{Every}
 use Rattle.cut_store.specs.Stores.{volumeRecord, pageRecord}
 use Rattle.cut_store.specs.Writes.{pageWrite, volumeWrite, secondWrite, laterWrite}
 use Rattle.cut_examples.specs.Computed.{Computed, blankRead, badMagic, tornHeader, tornPayload, validRead}
@@ -69,13 +70,12 @@ pub record VolumeCuts : Type 0 where
   pub volume-192 : Computed (volumeWrite 192) markedRead Heal.Nothing true (0 ∷ 2 ∷ 1 ∷ 0 ∷ 0 ∷ 2 ∷ 1 ∷ 0 ∷ 0 ∷ 1 ∷ 0 ∷ 1 ∷ []) newVolumeRecords
 
 -- What the theorem leaves out: one to six bytes over the Blank slot are a broken magic, which the judge calls damage.
-pub record MagicCuts : Type 0 where
-  pub volume-1 : Computed (volumeWrite 1) badMagic Heal.Nothing false (1 ∷ 1 ∷ 0 ∷ 4 ∷ 0 ∷ 2 ∷ 1 ∷ 0 ∷ 0 ∷ 1 ∷ 0 ∷ 1 ∷ []) oldRecords
-  pub volume-2 : Computed (volumeWrite 2) badMagic Heal.Nothing false (1 ∷ 1 ∷ 0 ∷ 4 ∷ 0 ∷ 2 ∷ 1 ∷ 0 ∷ 0 ∷ 1 ∷ 0 ∷ 1 ∷ []) oldRecords
-  pub volume-3 : Computed (volumeWrite 3) badMagic Heal.Nothing false (1 ∷ 1 ∷ 0 ∷ 4 ∷ 0 ∷ 2 ∷ 1 ∷ 0 ∷ 0 ∷ 1 ∷ 0 ∷ 1 ∷ []) oldRecords
-  pub volume-4 : Computed (volumeWrite 4) badMagic Heal.Nothing false (1 ∷ 1 ∷ 0 ∷ 4 ∷ 0 ∷ 2 ∷ 1 ∷ 0 ∷ 0 ∷ 1 ∷ 0 ∷ 1 ∷ []) oldRecords
-  pub volume-5 : Computed (volumeWrite 5) badMagic Heal.Nothing false (1 ∷ 1 ∷ 0 ∷ 4 ∷ 0 ∷ 2 ∷ 1 ∷ 0 ∷ 0 ∷ 1 ∷ 0 ∷ 1 ∷ []) oldRecords
-  pub volume-6 : Computed (volumeWrite 6) badMagic Heal.Nothing false (1 ∷ 1 ∷ 0 ∷ 4 ∷ 0 ∷ 2 ∷ 1 ∷ 0 ∷ 0 ∷ 1 ∷ 0 ∷ 1 ∷ []) oldRecords
+abbrev pub damagedVolume : List ℕ
+damagedVolume = 1 ∷ 1 ∷ 0 ∷ 4 ∷ 0 ∷ 2 ∷ 1 ∷ 0 ∷ 0 ∷ 1 ∷ 0 ∷ 1 ∷ []
+
+abbrev pub MagicCuts : Type 0
+MagicCuts =
+    Every (λ (k : ℕ). Computed (volumeWrite k) badMagic Heal.Nothing false damagedVolume oldRecords) (1 ∷ 2 ∷ 3 ∷ 4 ∷ 5 ∷ 6 ∷ [])
 
 -- ---- pages are written to slots B
 
