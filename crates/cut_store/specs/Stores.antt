@@ -39,9 +39,17 @@ pageRecord index next = headerBytes (record { page_index = index; next_seq = nex
 
 -- ---- slots
 
--- What a host left in the fields of a frame that are not given.
+-- What a host left in the fields of a frame that are not given: the largest numbers.
 abbrev pub rest : SlotPart
-rest = record { code = 0; facts = 0; generation = 5; meta_seq = 6; header_crc32c = 7; prev_header_crc32c = 8 }
+rest =
+    record {
+      code = 0;
+      facts = 0;
+      generation = 0xffff_ffff_ffff_ffff;
+      meta_seq = 0xffff_ffff_ffff_ffff;
+      header_crc32c = 0xffff_ffff;
+      prev_header_crc32c = 0xffff_ffff;
+    }
 
 -- The slots of an object lie one behind the other, and those of the next object behind them.
 abbrev pub fields : (object : ℕ) → SlotIndex → (generation prev number : ℕ) → SlotFields
