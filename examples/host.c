@@ -11,7 +11,7 @@
  * read or written. A refusal of the library is printed with its number. No file that exists is written to: IMAGE of make
  * and COPY must be new.
  *
- * The image. Its layout is the example's own, in line with document 01's table offset and table end. B is the block size, T
+ * The image. Its layout is the example's own, in line with docs/FORMAT.md, "The volume record". B is the block size, T
  * the size of a table slot, P the number of table pages, and p counts them from 0:
  *
  *     offset          size    what

@@ -1,4 +1,4 @@
-//! Sound stores and correct writes, as document 01 has them, made by the library.
+//! Sound stores and correct writes (docs/FORMAT.md, "The sound store and the cut"), made by the library.
 
 use crate::cut_records::{bytes, cells, clean_mark, done, Kind};
 use crate::ffi::{self, Version};

@@ -1,4 +1,4 @@
-//! One write cut at every byte: what the library answers to each slot that is left, beside what document 01 promises.
+//! One write cut at every byte: what the library answers to each slot that is left, beside what the cut theorem promises.
 
 use crate::cut_records::{bytes, cells};
 use crate::cut_store::{Pair, Write};

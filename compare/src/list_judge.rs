@@ -20,7 +20,7 @@ use crate::judge_reference::{judge, judge_records, Judged, VERDICT};
 use crate::list::List;
 use crate::value::Value;
 
-/// The example of document 01.
+/// In pair 1 the header of B is torn.
 const EXAMPLE: [Pair; 2] = [
     [Slot { facts: 0, previous: 0, ..valid(1, 1) }, nothing(BLANK)],
     [Slot { facts: 0, own: 0x2222_2222, previous: 0x3333_3333, ..valid(2, 2) }, bad_header(0x4444_4444)],

@@ -1,6 +1,6 @@
 //! What the Rust reference answers to one call of the functions for region names and the volume record.
 //!
-//! Document 01 differs from it: names are bytes, of which the reference takes only text; the table's end and the file's
+//! The library differs from it: names are bytes, of which the reference takes only text; the table's end and the file's
 //! length refuse sizes out of range; and a buffer that is too short for a record keeps its bytes.
 
 use crate::ffi_volume::{Base, Geometry, Volume};
@@ -12,7 +12,7 @@ pub const NAME: u32 = 35;
 pub const LOG2_BLOCK_SIZE: u32 = 23;
 pub const LOG2_TABLE_SLOT_SIZE: u32 = 24;
 
-/// The number that document 01 gives to an error.
+/// The number of the refusal that an error is.
 pub fn refusal_number(error: MetaError) -> u32 {
     match error {
         MetaError::Length => 11,

@@ -1,6 +1,6 @@
 //! What the Rust reference answers to one call of the functions for table pages and their entries.
 //!
-//! The reference reads and writes a single entry in private: a page of one entry does it here. Document 01 adds the
+//! The reference reads and writes a single entry in private: a page of one entry does it here. The library adds the
 //! refusals of entries that are not whole, and a buffer that is too short keeps its bytes.
 
 use crate::ffi_table::{Entry, Header, Limits};

@@ -1,4 +1,4 @@
--- The code's two maxima and count give document 01's rule, the highest among all other numbered slots: by induction over the slots,
+-- The code's two maxima and count give the definition's rule, the highest among all other numbered slots: by induction over the slots,
 -- with what the maxima hold of the slots gone through before the candidate's own slot, and after it.
 use Rattle.std.proofs.Common.{◌≡◌, refl, sym, ap, ◌∙◌, subst, Bool, true, false, cond, List, [], ◌∷◌, ℕ, zero, suc, ◌+◌, ◌≤◌, ◌<◌, max, arith, eqb, ltb, ltb-true, ltb-false, eqb-true, eq-eqb, ne_eqb}
 use borrow.Author.Tests.{eqb-false}
@@ -143,7 +143,7 @@ others-from v k₀ ss₀ s m h (there {k = k} {x = x} {ss = ss} at) own noted =
     others-from v k ss s (noteSeq m (numbered x)) (max h (number (numbered x))) at own (noted-seq (numbered x) m h noted)
     ∙ omega arith
 
--- A numbered slot qualifies by the code's rule if and only if it does by document 01's.
+-- A numbered slot qualifies by the code's rule if and only if it does by the definition's.
 pub qualifies-same : (v k : ℕ) (ss : List SlotPart) (s : SlotPart) → At k ss s → numbered s ≡ MetaSeq.Number v
     → qualifiesBy (noteAll noMaxima ss) (MetaSeq.Number v) ≡ qualifies ss k (MetaSeq.Number v)
 qualifies-same v k ss s at own =

@@ -1,5 +1,5 @@
 -- The rule by which the code finds the highest of the other numbers (judge.rs): two running maxima and a count. That it gives the same
--- as document 01's words is a law (proofs/NumberLaws.antt).
+-- as `qualifies` of Numbers.antt is a law (proofs/NumberLaws.antt). So one pass over the slots answers for every candidate.
 use Rattle.std.specs.Prelude.{Bool, true, cond, List, [], ◌∷◌, ℕ, ◌+◌, min, eqb, ltb}
 use Rattle.slot.specs.declared.slot.SlotIndex.{SlotIndex}
 use Rattle.frame.specs.declared.frame.SlotPart.{SlotPart}

@@ -1,5 +1,5 @@
--- What a pair shows by itself (document 01, "Store verdict"; judge.rs): the numbers its slots count for, its winner, and the slot
--- opposite the winner. Codes and facts are document 01's.
+-- What a pair shows by itself (docs/FORMAT.md, "The store verdict"; judge.rs): the numbers its slots count for, its winner, and the slot
+-- opposite the winner. Codes and facts are the numbers of a frame.
 use Rattle.std.specs.Prelude.{Bool, true, false, cond, ◌+◌, eqb, ltb, leb}
 use Rattle.slot.specs.declared.slot.SlotIndex.{SlotIndex}
 use Rattle.frame.specs.declared.frame.SlotPart.{SlotPart}
@@ -9,6 +9,7 @@ use Rattle.candidate.specs.declared.pairs.Opposite.{Opposite}
 use Rattle.candidate.specs.declared.pairs.PairCase.{PairCase}
 
 -- The numbered slots are the Valid ones (12), and those of code 11 whose header passed every other check.
+-- Of another header the number may be a mixture of two writes.
 unfoldable pub numbered : SlotPart → MetaSeq
 numbered s =
     cond (eqb s.code 12) (MetaSeq.Number s.meta_seq)
@@ -17,6 +18,7 @@ numbered s =
 -- ---- the slot opposite the one Valid slot
 
 -- Code 11: an older generation, or the next one with the winner's checksum as its previous one.
+-- The latter is what a write leaves that was cut in its payload. No power cut leaves another header there.
 unfoldable pub badPayload : SlotPart → SlotPart → Opposite
 badPayload winner o =
     cond (eqb o.facts 2)
@@ -27,6 +29,8 @@ badPayload winner o =
     Opposite.Damage
 
 -- Code 4: the stored checksum of the winner's predecessor, or any other one.
+-- The winner records the checksum of the slot that it replaced; in generation 1 it replaced none. Any other one is what a write leaves
+-- that was cut in its header.
 unfoldable pub badHeader : SlotPart → SlotPart → Opposite
 badHeader winner o =
     cond (eqb o.facts 0) Opposite.Damage
@@ -35,6 +39,7 @@ badHeader winner o =
     (Opposite.Candidate MetaSeq.Nothing))
 
 -- Code 2: only B is blank beside a first write. The index is the winner's.
+-- The first write of a pair goes to A, and from the second on both slots have been written.
 unfoldable pub blank : SlotIndex → SlotPart → Opposite
 blank SlotIndex.A winner = cond (eqb winner.generation 1) Opposite.Nothing Opposite.Damage
 blank SlotIndex.B winner = Opposite.Damage
@@ -54,6 +59,7 @@ isCandidate Opposite.Damage = false
 -- ---- the pair
 
 -- UnsupportedVersion (5) or Incompatible (6).
+-- A later version may have a newer record there: the pair has no winner.
 unfoldable pub unsupported : SlotPart → Bool
 unsupported s = cond (eqb s.code 5) true (eqb s.code 6)
 

@@ -1,4 +1,4 @@
--- Numbers of packed fields.
+-- A number that is read from the fields of a case: 0 where they end before it.
 use Rattle.std.specs.Prelude.{ℕ}
 use Rattle.codec.specs.Cursor.{Answer, done, refused}
 

@@ -1,6 +1,6 @@
--- The cut theorem (document 01, "The sound store and the cut"): a correct write to a sound store is cut after k bytes. Unless an accident
--- happened, every pair is judged Confirmed, the store is writable, no slot but the written one is healed, and every pair's last written
--- record is read back: in the written pair the new one if and only if it stands whole.
+-- The cut theorem (docs/FORMAT.md, "The sound store and the cut"): a correct write to a sound store is cut after k bytes. Unless an
+-- accident happened, every pair is judged Confirmed, the store is writable, no slot but the written one is healed, and every pair's last
+-- written record is read back: in the written pair the new one if and only if it stands whole.
 --
 -- The definitions of other crates that are named here are those that the contracts of `encode`, `validate`, `header_facts`, `judge`, the
 -- winner's payload and the decoders state.

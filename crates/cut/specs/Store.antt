@@ -1,4 +1,4 @@
--- The sound store (document 01, "The sound store and the cut"): its slots and pairs, how they are read and judged, and when it is sound.
+-- The sound store (docs/FORMAT.md, "The sound store and the cut"): its slots and pairs, how they are read and judged, and when it is sound.
 use Rattle.std.specs.Prelude.{◌≡◌, Bool, true, false, cond, List, [], ◌∷◌, ℕ, ◌+◌, ◌^◌, ◌<◌, leb, ltb, eqb, length}
 use Rattle.codec.specs.Bytes.{AllBytes}
 use Rattle.codec.specs.Outcome.{Outcome, given, refusal, isGiven}

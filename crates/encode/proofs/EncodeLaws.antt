@@ -8,14 +8,13 @@ use Rattle.codec.proofs.FieldLaws.{Field, byte, number, run, row, row-append, �
 use Rattle.codec.proofs.ChecksumLaws.{crc-lt}
 use Rattle.codec.proofs.RunLaws.{same_refl}
 use Rattle.slot.specs.Status.{indexNumber}
-use Rattle.slot.specs.Read.{magic, header, headerSum, lengthOk, integrity, numberOk, shape, place, check, info, parseHeader, payloadStart, payloadLength, payload as payloadOf, payloadOk, validate, headerFacts}
+use Rattle.slot.specs.Read.{magic, header, headerSum, lengthOk, integrity, numberOk, shape, place, check, info, parseHeader, payloadStart, payloadLength, payload as payloadOf, payloadOk, validate}
 use Rattle.slot.specs.Write.{frontBytes, identityBytes, historyBytes, headerBytes, headerCrc, writtenHeader, slotBytes}
 use Rattle.slot.specs.declared.slot.SlotIndex.{SlotIndex}
 use Rattle.slot.specs.declared.slot.SlotFields.{SlotFields}
 use Rattle.slot.specs.declared.slot.Expect.{Expect}
 use Rattle.slot.specs.declared.slot.SlotInfo.{SlotInfo}
 use Rattle.slot.specs.declared.slot.SlotStatus.{SlotStatus}
-use Rattle.slot.specs.declared.slot.HeaderFacts.{HeaderFacts}
 use Rattle.slot.specs.declared.slot.RawHeader.{RawHeader}
 use Rattle.slot.specs.declared.slot.Check.{Check}
 use Rattle.slot.specs.declared.slot.Parsed.{Parsed}
@@ -297,11 +296,6 @@ module _ {f : SlotFields} {numbered : Bool} (proper : Proper f numbered) (payloa
       length-passes : lengthOk (length slot) f.log2_slot_size ≡ true
       unfolding lengthOk
       length-passes = simp (le-ltb _ _ log2-low, le-ltb _ _ log2-high, eq-eqb _ _ size)
-
-      -- Whatever stands behind the header.
-      pub facts-written : headerFacts slot (expectOf f numbered) ≡ HeaderFacts.Numbered (headerCrc f payload) (record { generation = f.generation; meta_seq = f.meta_seq; prev_header_crc32c = f.prev_header_crc32c })
-      unfolding headerFacts
-      facts-written = simp (length-passes, not-blank, slot_at 0, parse-written, ap (λ (h : RawHeader). h.header_crc32c) slot-header)
 
       pub validate-written : validate slot (expectOf f numbered) ≡ cond (payloadOk slot (infoOf f payload) (crc32c payload)) (SlotStatus.Valid (infoOf f payload)) SlotStatus.BadPayloadCrc
       unfolding validate

@@ -1,4 +1,4 @@
--- Document 01's number and value for each answer of `encode`.
+-- The number and the value of each answer of `encode` (docs/FORMAT.md, "Writing a slot").
 use Rattle.std.specs.Prelude.{Bool, true, false, cond, ℕ, eqb}
 use Rattle.codec.specs.Outcome.{Outcome, given, refusal}
 use Rattle.encode.specs.declared.EncodeError.{EncodeError}

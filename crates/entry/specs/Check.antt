@@ -1,5 +1,5 @@
--- The checks of one entry by itself (document 01, refusals of `RawEntry::check`), in their order.
-use Rattle.std.specs.Prelude.{ℕ, ◌^◌}
+-- The checks of one entry by itself (docs/FORMAT.md, "Entries"), in their order.
+use Rattle.std.specs.Prelude.{◌≡◌, List, ◌++◌, ℕ, ◌^◌, length}
 use Rattle.codec.specs.Outcome.{Outcome, given, refusal, and_then}
 use Rattle.region.specs.Error.{errorNumber}
 use Rattle.region.specs.Kind.{kind_of}
@@ -11,6 +11,7 @@ use Rattle.entry.specs.declared.meta2.RawEntry.{RawEntry}
 use Rattle.entry.specs.declared.meta2.Entry2.{Entry2}
 use Rattle.entry.specs.declared.meta2.Entry2Read.{Entry2Read}
 use Rattle.entry.specs.declared.meta2.EntryLimits.{EntryLimits}
+use Rattle.entry.specs.Entry.{entryRead, entryBytes, toRaw, stored, Fits}
 
 -- What an accepted entry keeps.
 abbrev pub entry2 : RawEntry → RegionKind → RegionName → Entry2
@@ -55,3 +56,8 @@ checkEntry e l =
 abbrev pub entryOutcome : Entry2Read → Outcome Entry2
 entryOutcome (Entry2Read.Entry e) = given e
 entryOutcome (Entry2Read.Refused error) = refusal (errorNumber error)
+
+-- An entry is read back as it was written, whatever follows it, and stored as it was accepted, but for the zeros at 38.
+pub record EntriesBack : Type 0 where
+  pub read_back : (e : RawEntry) → Fits e → (rest : List ℕ) → entryRead (entryBytes e ++ rest) ≡ given (stored e)
+  pub accepted_back : (e : RawEntry) (l : EntryLimits) (x : Entry2) → checkEntry e l ≡ given x → length e.name ≡ 24 → toRaw x ≡ stored e

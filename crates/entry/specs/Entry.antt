@@ -1,6 +1,6 @@
--- A table entry of 96 bytes (document 01, "Volume record and pages"): as it is read, as it is written, and what is asked of an entry that
+-- A table entry of 96 bytes (docs/FORMAT.md, "Entries"): as it is read, as it is written, and what is asked of an entry that
 -- need not pass its checks.
-use Rattle.std.specs.Prelude.{List, ℕ, take, drop}
+use Rattle.std.specs.Prelude.{◌≡◌, ◌<◌, ◌^◌, List, ℕ, length, take, drop}
 use Rattle.codec.specs.Outcome.{Outcome, given, refusal, and_then}
 use Rattle.region.specs.Error.{errorNumber, held}
 use Rattle.region.specs.Kind.{kindNumber, kind_of}
@@ -120,3 +120,25 @@ toRaw e =
       span_end = e.span_end;
       footprint_seq = e.footprint_seq;
     }
+
+-- An entry with its reserved bytes zero, as it is stored.
+abbrev pub stored : RawEntry → RawEntry
+stored e = record e { reserved = 0 }
+
+-- Each number of an entry fits its width, and the name is 24 bytes.
+pub record Fits (e : RawEntry) : Type 0 where
+  pub seq : e.seq < 2 ^ 32
+  pub kind : e.kind < 2 ^ 8
+  pub state : e.state < 2 ^ 8
+  pub flags : e.flags < 2 ^ 8
+  pub compat-flags : e.compat_flags < 2 ^ 8
+  pub name : length e.name ≡ 24
+  pub tag : e.tag < 2 ^ 32
+  pub extent-count : e.extent_count < 2 ^ 16
+  pub header-a : e.header_a < 2 ^ 64
+  pub header-b : e.header_b < 2 ^ 64
+  pub data-size : e.data_size < 2 ^ 64
+  pub capacity : e.capacity < 2 ^ 64
+  pub span-start : e.span_start < 2 ^ 64
+  pub span-end : e.span_end < 2 ^ 64
+  pub footprint-seq : e.footprint_seq < 2 ^ 64

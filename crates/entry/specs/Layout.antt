@@ -1,4 +1,4 @@
--- The layout of a table entry, 96 bytes (document 01, "Volume record and pages"): its parts by offsets, and as they are written.
+-- The layout of a table entry, 96 bytes (docs/FORMAT.md, "Entries"): its parts by offsets, and as they are written.
 use Rattle.std.specs.Prelude.{List, ◌++◌, ℕ, get_or}
 use Rattle.codec.specs.Bytes.{le16, le32, le64, bytes, bytes16, bytes32, bytes64}
 use Rattle.codec.specs.Outcome.{Outcome, given, refusal}

@@ -24,7 +24,7 @@ ghost use Rattle.region.specs.Block.{blockSize};
 ghost use Rattle.region.specs.Error.{checkOutcome, encodedOutcome, fitted};
 ghost use Rattle.name.specs.Name.{padded};
 ghost use Rattle.entry.specs.Entry.{entryRead, rawOutcome, entryBytes, foundName, nameAndKind, foundBoth, reservedSpan, toRaw};
-ghost use Rattle.entry.specs.Check.{placesCheck, entryOutcome, checkEntry};
+ghost use Rattle.entry.specs.Check.{placesCheck, entryOutcome, checkEntry, EntriesBack};
 
 use crate::layout::{
     EntryFront, EntryFrontRead, EntryPlaces, EntryPlacesRead, read_front, read_places, write_parts,
@@ -139,7 +139,7 @@ pub struct EntryLimits {
 
 impl RawEntry {
     // The entry in the first 96 bytes.
-    #[tactic(auto, unfolding(crate::specs::Entry::entryRead, region::specs::Error::held, codec::specs::Cursor::step))]
+    #[tactic(auto, unfolding(crate::specs::Entry::entryRead, region::specs::Error::held))]
     pub fn read(bytes: &[u8]) -> RawEntryRead
         ensures { rawOutcome result ≡ entryRead bytes.now }
     {
@@ -202,23 +202,21 @@ impl RawEntry {
     }
 
     // The per-entry checks. An entry that fails them makes its region unavailable; the page itself stands.
-    #[tactic(auto, unfolding(crate::specs::Check::checkEntry), using(crate::proofs::CheckLaws::known_block))]
+    #[tactic(auto, unfolding(crate::specs::Check::checkEntry), using(crate::proofs::CheckLaws::known_block, region::proofs::KindLaws::kind_refused, name::proofs::NameLaws::padded_refused))]
     pub fn check(self, lim: EntryLimits) -> Entry2Read
         ensures { entryOutcome result ≡ checkEntry self lim }
     {
         if let Check::Fail(error) = check_known(self.flags, lim.log2_block) {
             return Entry2Read::Refused(error);
         }
-        let kind = match RegionKind::from_u8(self.kind) {
-            KindRead::Refused(error) => return Entry2Read::Refused(error),
-            KindRead::Kind(kind) => kind,
+        let KindRead::Kind(kind) = RegionKind::from_u8(self.kind) else {
+            return Entry2Read::Refused(MetaError::Field(33));
         };
         if let Check::Fail(error) = check_state(self.state) {
             return Entry2Read::Refused(error);
         }
-        let name = match RegionName::from_padded(self.name) {
-            Named::Refused(error) => return Entry2Read::Refused(error),
-            Named::Name(name) => name,
+        let Named::Name(name) = RegionName::from_padded(self.name) else {
+            return Entry2Read::Refused(MetaError::Field(35));
         };
         if let Check::Fail(error) = check_places(self, kind, lim) {
             return Entry2Read::Refused(error);
@@ -356,3 +354,9 @@ fn check_places(e: RawEntry, kind: RegionKind, lim: EntryLimits) -> Check
     };
     check_sizes(kind, e.capacity, e.data_size, lim.log2_block)
 }
+
+// Does nothing: its contract is the round trip of entries.
+#[tactic(auto, using(crate::proofs::EntryLaws::entries_back))]
+pub fn round_trip()
+    ensures { EntriesBack }
+{}

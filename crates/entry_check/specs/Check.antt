@@ -1,4 +1,4 @@
--- The checks of one entry by itself (document 01, refusals of `RawEntry::check`), each on the numbers that it is about.
+-- The checks of one entry by itself (docs/FORMAT.md, "Entries"), each on the numbers that it is about.
 use Rattle.std.specs.Prelude.{cond, not, ℕ, ◌+◌, ◌-◌, ◌%◌, leb, ltb, eqb}
 use Rattle.codec.specs.Outcome.{Outcome, given, refusal}
 use Rattle.region.specs.Kind.{kindNumber}

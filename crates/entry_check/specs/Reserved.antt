@@ -1,5 +1,5 @@
--- What an entry keeps reserved although it fails its checks (document 01, 003: `reserved_span` of meta2.rs): its span widened to whole
--- blocks, then clamped to the file and to past the table.
+-- What an entry keeps reserved although it fails its checks (docs/FORMAT.md, "Entries"; `reserved_span` of meta2.rs): its span widened to
+-- whole blocks, then clamped to the file and to past the table.
 use Rattle.std.specs.Prelude.{cond, ℕ, ◌+◌, ◌-◌, ◌%◌, ltb, eqb}
 use Rattle.region.specs.Block.{blockSize}
 use Rattle.entry_check.specs.declared.meta2.ReservedSpan.{ReservedSpan}

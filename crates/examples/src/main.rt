@@ -1,4 +1,4 @@
-// The examples of document 01 that are run and not proved: what the library gives beside what the paper says.
+// Examples at the edges that are run and not proved: what the library gives beside what docs/FORMAT.md says.
 #![tactic(auto)]
 
 use std::io;

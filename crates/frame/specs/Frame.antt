@@ -1,4 +1,4 @@
--- A slot's part of a frame (document 01, "Store verdict"): what it is filled with, its bytes, and what bytes stand for.
+-- A slot's part of a frame (docs/FORMAT.md, "Frames"): what it is filled with, its bytes, and what bytes stand for.
 use Rattle.std.specs.Prelude.{List, ◌++◌, ℕ, get_or}
 use Rattle.codec.specs.Bytes.{le32, le64, bytes, bytes32, bytes64}
 use Rattle.slot.specs.Status.{code, validInfo, factsNumber}

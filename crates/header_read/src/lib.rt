@@ -1,5 +1,5 @@
-// Layer 2: a slot's header as it is read: its numbers in the order of the layout, then the checks of them in document 01's order, through every
-// one but the payload's CRC.
+// Layer 2: a slot's header as it is read: its numbers in the order of the layout, then the checks of them in the order of the
+// statuses, through every one but the payload's CRC.
 #![tactic(auto)]
 
 ghost use Rattle.std.specs.Prelude.{◌≡◌, ◌+◌, ◌≤◌, length};

@@ -1,4 +1,4 @@
--- Metadata (document 01, "Volume record and pages") as a C host hands it over, and the numbers that it finds.
+-- Metadata (docs/FORMAT.md, "The C interface") as a C host hands it over, and the numbers that it finds.
 use Rattle.std.specs.Prelude.{false, List, [], ◌∷◌, ℕ, replicate}
 use Rattle.codec.specs.Outcome.{Outcome, given, refusal, and_then}
 use Rattle.region.specs.Kind.{kindNumber}

@@ -1,4 +1,4 @@
--- What a C host finds after a judgement (document 01, "Store verdict"): a refusal, or the numbers of the judgement. A slot is 0 none,
+-- What a C host finds after a judgement (docs/FORMAT.md, "The C interface"): a refusal, or the numbers of the judgement. A slot is 0 none,
 -- 1 A, 2 B.
 use Rattle.std.specs.Prelude.{List, [], ◌∷◌, ℕ}
 use Rattle.verdict.specs.declared.verdict.Judgement.{Judgement}

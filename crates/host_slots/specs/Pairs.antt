@@ -1,4 +1,4 @@
--- A pair (document 01, "Pair winner and payload") as a C host hands it over, and the report that it finds.
+-- A pair (docs/FORMAT.md, "Pairs" and "The C interface") as a C host hands it over, and the report that it finds.
 use Rattle.std.specs.Prelude.{cond, List, [], ◌∷◌, ℕ, ltb, eqb}
 use Rattle.codec.specs.Bytes.{flag}
 use Rattle.slot.specs.declared.slot.SlotInfo.{SlotInfo}

@@ -1,4 +1,4 @@
--- A slot's identity as a C host hands it over (document 01: the volume id is two u64s, its first eight
+-- A slot's identity as a C host hands it over (docs/FORMAT.md, "The C interface": the volume id is two u64s, its first eight
 -- bytes in the first; any index but 0 is B, any `numbered` but 0 is yes).
 use Rattle.std.specs.Prelude.{Bool, cond, not, List, ◌++◌, ℕ, eqb}
 use Rattle.codec.specs.Bytes.{bytes64}

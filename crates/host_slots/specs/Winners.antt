@@ -1,6 +1,8 @@
--- The winner's payload (document 01, "Pair winner and payload") as a C host finds it: its slot (0 none, 1 A, 2 B), its start and its
+-- The winner's payload (docs/FORMAT.md, "The C interface") as a C host finds it: its slot (0 none, 1 A, 2 B), its start and its
 -- length in that slot.
-use Rattle.std.specs.Prelude.{List, ℕ}
+use Rattle.std.specs.Prelude.{◌≡◌, List, [], ℕ, length}
+use Rattle.std.specs.Borrow.{Bor}
+use Rattle.codec.specs.Place.{Part}
 use Rattle.slot.specs.Read.{payloadStart, payloadLength}
 use Rattle.slot.specs.declared.slot.SlotIndex.{SlotIndex}
 use Rattle.pair.specs.declared.pair.PairReport.{PairReport}
@@ -23,3 +25,12 @@ abbrev pub winnerLength : ℕ → ℕ → WinnerInfo → ℕ
 winnerLength a b WinnerInfo.Nothing = 0
 winnerLength a b (WinnerInfo.Won SlotIndex.A i) = payloadLength i a
 winnerLength a b (WinnerInfo.Won SlotIndex.B i) = payloadLength i b
+
+-- Slot number, start and length are the place of a part in the bytes of slots A and B:
+pub data PlacedAt (slot start len : ℕ) (a b part : Bor (List ℕ)) : Type 0 where
+  -- in neither, and the part is empty,
+  nowhere : slot ≡ 0 → start ≡ 0 → len ≡ 0 → part.now ≡ [] → PlacedAt slot start len a b part
+  -- in A,
+  in_a : slot ≡ 1 → Part a start len part → length part.now ≡ len → PlacedAt slot start len a b part
+  -- or in B.
+  in_b : slot ≡ 2 → Part b start len part → length part.now ≡ len → PlacedAt slot start len a b part

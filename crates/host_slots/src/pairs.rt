@@ -7,7 +7,7 @@ use codec::bytes::flag;
 use pair::pair::{NextWrite, PairReport};
 use slot::slot::{SlotInfo, SlotStatus};
 
-// The status with a number of document 01, and what `decide` looks at of a valid slot.
+// The status with a number, and what `decide` looks at of a valid slot.
 #[tactic(auto, using(slot::proofs::ReadLaws::tests), unfolding(crate::specs::Pairs::statusOf))]
 pub fn status_of(
     code: u32,

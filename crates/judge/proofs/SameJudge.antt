@@ -31,6 +31,7 @@ use Rattle.judge.proofs.SlotRead.TheLaws as R'
 use Rattle.judge.specs.contracts.PairRead as P
 use Rattle.judge.proofs.PairRead.TheLaws as P'
 use Rattle.judge.specs.Row.{partRead, rowRead, rowJudged, rowVerdicts}
+use Rattle.judge.specs.Same.{RowTyped, SameJudge}
 
 -- ---- what the types of the row's records say of its values
 
@@ -70,11 +71,6 @@ slot-filled s vs is =
       range = part-range s.status s.facts;
     }
 
--- Every pair is a value of its type.
-pub data RowTyped : List PairRead → Type 0 where
-  none : RowTyped []
-  more : {p : PairRead} {ps : List PairRead} (vs : List Val) → Is P.the_row p vs → RowTyped ps → RowTyped (p ∷ ps)
-
 row-filled : (ps : List PairRead) → RowTyped ps → AllFilled (rowRead ps)
 row-filled [] typed = AllFilled.none
 row-filled (p ∷ ps) (RowTyped.more vs is rest) =
@@ -96,11 +92,11 @@ either-bytes true xs ys = refl
 either-bytes false xs ys = refl
 
 module _ (ps : List PairRead) (typed : RowTyped ps) (clean : Bool) where
-  pub same_answer : (room : ℕ) → judged (framesOf (rowRead ps)) (flag clean) (room * verdictWidth) ≡ rowJudged ps clean room
+  same_answer : (room : ℕ) → judged (framesOf (rowRead ps)) (flag clean) (room * verdictWidth) ≡ rowJudged ps clean room
   unfolding rowJudged
   same_answer room = simp length-read at (filled-judged (rowRead ps) (row-filled ps typed) clean room)
 
-  pub same-verdicts : (out : List PairVerdict)
+  same-verdicts : (out : List PairVerdict)
       → judgedBytes (framesOf (rowRead ps)) (flag clean) (verdictBytes out) ≡ verdictBytes (rowVerdicts ps clean out)
   unfolding rowVerdicts
   same-verdicts out =
@@ -108,3 +104,6 @@ module _ (ps : List PairRead) (typed : RowTyped ps) (clean : Bool) where
       by_frames
       ∙ ap (λ (n : ℕ). cond (eqb (refusedRow n (length out)) 0) (verdictBytes (verdicts (rowRead ps) clean)) (verdictBytes out)) (length-read ps)
       ∙ either-bytes (eqb (refusedRow (length ps) (length out)) 0) (verdicts (rowRead ps) clean) out
+
+pub same_judge : SameJudge
+same_judge = record { answer = same_answer; verdicts = same-verdicts }

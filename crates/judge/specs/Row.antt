@@ -1,5 +1,5 @@
--- The store verdict over a row of pairs as they were read (document 01, "Store verdict"; judge.rs): the same verdict as over the parts
--- that a frame is filled with.
+-- The store verdict over a row of pairs as they were read (docs/FORMAT.md, "The store verdict"; judge.rs): the same verdict as over the
+-- parts that a frame is filled with.
 use Rattle.std.specs.Prelude.{Bool, cond, List, [], ◌∷◌, ℕ, eqb, length}
 use Rattle.frame.specs.declared.frame.SlotPart.{SlotPart}
 use Rattle.frame.specs.Frame.{part_of}

@@ -11,6 +11,7 @@ ghost use Rattle.candidate.specs.Numbers.{slots};
 ghost use Rattle.verdict.specs.Judge.{lastVerdicts, volumeVerdict};
 ghost use Rattle.verdict.specs.Passes.{verdictsBy, noTally, tallies, heals};
 ghost use Rattle.judge.specs.Row.{partRead, pairRead, rowRead, rowJudged, rowVerdicts};
+ghost use Rattle.judge.specs.Same.{SameJudge};
 
 use candidate::numbers::Maxima;
 use candidate::pairs::PairPart;
@@ -139,3 +140,9 @@ pub fn judge(pairs: &[PairRead], clean_close: bool, out: &mut [PairVerdict]) -> 
         refused: t.refused,
     })
 }
+
+// Does nothing: its contract is that the judge over frames answers the same.
+#[tactic(auto, using(crate::proofs::SameJudge::same_judge))]
+pub fn same_law()
+    ensures { SameJudge }
+{}

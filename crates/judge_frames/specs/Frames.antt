@@ -1,4 +1,4 @@
--- The store verdict over frames (document 01, "Store verdict" and the refusals of judge).
+-- The store verdict over frames (docs/FORMAT.md, "Frames", "The store verdict" and "Refusals").
 --
 -- A pair's frame, 52 bytes: the part of slot A, then that of slot B.
 use Rattle.std.specs.Prelude.{Bool, true, false, cond, List, [], ◌∷◌, ◌++◌, ℕ, zero, suc, ◌*◌, ◌/◌, ◌%◌, eqb, leb, length, drop}

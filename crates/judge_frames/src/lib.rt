@@ -25,6 +25,7 @@ ghost use Rattle.verdict.specs.Verdict.{standingNumber, winnerNumber, slotVerdic
 ghost use Rattle.verdict.specs.Judge.{lastVerdicts, verdicts, judgeRow};
 ghost use Rattle.verdict.specs.Passes.{verdictsBy, tallies, noTally, heals};
 ghost use Rattle.judge_frames.specs.Frames.{frameWidth, verdictWidth, pairFrom, row, partInRange, pairInRange, in_range, refusal, judged, judgedBytes};
+ghost use Rattle.judge_frames.specs.Examples.{JudgeExamples};
 
 use candidate::numbers::Maxima;
 use candidate::pairs::PairPart;
@@ -126,7 +127,7 @@ fn in_range(frames: &[u8], n: usize) -> bool
 
 // ---- a verdict
 
-// Document 01's numbers of a standing,
+// The numbers of a standing,
 pub fn standing_number(s: Standing) -> u8
     ensures { result ≡ standingNumber s }
 {
@@ -289,3 +290,9 @@ pub fn judge(frames: &[u8], clean: u8, verdicts: &mut [u8]) -> Judged
     let n = frames.len() / FRAME;
     Judged::Done(judge_pairs(frames, n, clean == 1, verdicts))
 }
+
+// Does nothing: its contract is the examples.
+#[tactic(auto, using(crate::proofs::JudgeExamples::judge_examples))]
+pub fn examples()
+    ensures { JudgeExamples }
+{}

@@ -3,11 +3,10 @@ use Rattle.std.proofs.Common.{◌≡◌, refl, sym, ap, ◌∙◌, Bool, true, f
 use borrow.Author.Tests.{eqb-false, not-false}
 use Rattle.std.proofs.Math.ListN.{length-replicate, replicate-append-replicate}
 use Rattle.codec.specs.Bytes.{allZero, put}
-use Rattle.codec.specs.Outcome.{given}
+use Rattle.codec.specs.Outcome.{Outcome, given, refusal}
 use Rattle.codec.proofs.CursorLaws.{put-prefix}
 use Rattle.name.specs.Utf8.{utf8}
-use Rattle.name.specs.Scalar.{Encoded}
-use Rattle.name.specs.Name.{zeroAt, nameOk, stored, nameRefused, named, padded}
+use Rattle.name.specs.Name.{zeroAt, nameOk, stored, nameRefused, named, padded, IsName, NamesAre, NamesBack}
 use Rattle.name.specs.declared.meta.RegionName.{RegionName}
 use Rattle.name.proofs.Utf8Laws.{utf8-encoded, encoded-utf8}
 
@@ -67,22 +66,23 @@ name-facts s ok =
     let not_None = eqb-false (length s) 0 some.0 in
     (omega arith, ltb-false _ _ short.0, eqb-true _ _ (not-false _ whole.0), whole.1)
 
--- Accepted are the encodings of scalar values in 1 to 24 bytes, none of them zero, and nothing else.
-pub name-encoded : (s : List ℕ) → nameOk s ≡ true → (1 ≤ length s) × (length s ≤ 24) × (zeroAt s ≡ length s) × Encoded s
-name-encoded s ok = let facts = name-facts s ok in (facts.0, facts.1, facts.2, utf8-encoded s facts.3)
+name-encoded : (s : List ℕ) → nameOk s ≡ true → IsName s
+name-encoded s ok =
+    let facts = name-facts s ok in
+    record { some = facts.0; short = facts.1; whole = facts.2; encoded = utf8-encoded s facts.3 }
 
-pub encoded-name : (s : List ℕ) → 1 ≤ length s → length s ≤ 24 → zeroAt s ≡ length s → Encoded s → nameOk s ≡ true
+encoded-name : (s : List ℕ) → IsName s → nameOk s ≡ true
 unfolding nameOk
-encoded-name s some short whole encoded =
-    rw (ne_eqb (length s) 0 (λ none. omega arith), le-ltb 24 (length s) short, eq-eqb (zeroAt s) (length s) whole) (encoded-utf8 s encoded)
+encoded-name s is =
+    rw (ne_eqb (length s) 0 (λ none. omega (arith, is.some)), le-ltb 24 (length s) is.short, eq-eqb (zeroAt s) (length s) is.whole)
+    (encoded-utf8 s is.encoded)
+
+pub names_are : NamesAre
+names_are s = (name-encoded s, encoded-name s)
 
 pub name-given : (s : List ℕ) → nameOk s ≡ true → named s ≡ given (stored s)
 unfolding named
 name-given s ok = rw ok
-
-pub name-refused : (s : List ℕ) → nameOk s ≡ false → named s ≡ nameRefused
-unfolding named
-name-refused s not-ok = rw not-ok
 
 -- What is given is the name as it is stored, and the bytes were a name.
 pub name-accepted : (s : List ℕ) {name : RegionName} → named s ≡ given name → (nameOk s ≡ true) × (name ≡ stored s)
@@ -105,6 +105,20 @@ module _ (raw : List ℕ) where
 
   abbrev padding : List ℕ
   padding = drop (zeroAt raw) raw
+
+  -- Stored bytes that are no name are 35.
+  pub padded_refused : {number : ℕ} → padded raw ≡ refusal number → padded raw ≡ nameRefused
+  unfolding padded named
+  padded_refused {number} is = go (allZero padding) (nameOk text) is
+    where
+      name : Outcome RegionName
+      name = given (stored text)
+
+      go : (zeros ok : Bool) → cond zeros (cond ok name nameRefused) nameRefused ≡ refusal number
+          → cond zeros (cond ok name nameRefused) nameRefused ≡ nameRefused
+      go true true is = let never : ◌≡◌ {A = ℕ} 0 1 = cc in absurd (omega arith)
+      go true false is = refl
+      go false ok is = refl
 
   -- A name that is read from 24 bytes is stored as these bytes.
   pub padded-bytes : {name : RegionName} → padded raw ≡ given name → length raw ≡ 24 → name.bytes ≡ raw
@@ -141,7 +155,10 @@ module _ (s : List ℕ) (ok : nameOk s ≡ true) where
   stored-back = rw (stored-zeros, stored-front) (name-given s ok)
 
 -- So is every name that is given.
-pub name_back : (s : List ℕ) {name : RegionName} → named s ≡ given name → padded name.bytes ≡ given name
-name_back s is =
+name_back : (s : List ℕ) (name : RegionName) → named s ≡ given name → padded name.bytes ≡ given name
+name_back s name is =
     let accepted = name-accepted s is in
     simp accepted.1 (stored-back s accepted.0)
+
+pub names_back : NamesBack
+names_back = record { read_back = name_back; stored_back = λ raw name is size. padded-bytes raw is size }

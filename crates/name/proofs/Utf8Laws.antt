@@ -2,7 +2,7 @@
 use Rattle.std.proofs.Common.{◌≡◌, refl, ap, ap₂, ◌∙◌, subst, Bool, true, ◌&&◌, List, [], ◌∷◌, ◌++◌, ℕ, zero, suc, ◌≤◌, arith, eq-eqb, ne_eqb, eqb-true, eqb, length, take, drop, length-append, take-append-drop}
 use Rattle.std.proofs.Math.Bool.{and-eq-true_iff, or-true}
 use Rattle.name.specs.Utf8.{Range, utf8Char, begins, utf8Octets, utf8}
-use Rattle.name.specs.Scalar.{encode, encodeAll, Scalars, Encoded}
+use Rattle.name.specs.Scalar.{encode, encodeAll, Scalars, Encoded, GrammarEncodes}
 use Rattle.name.proofs.Rows.{begins-fits, fits-begins, fits-behind, some-found, some_at}
 use Rattle.name.proofs.Encoding.{row, Encodes, encode-some, rows-valued, value-placed}
 
@@ -56,3 +56,6 @@ encoded-octets (suc n) (Scalars.some {v = v} {vs = vs} scalar rest) within =
 pub encoded-utf8 : (s : List ℕ) → Encoded s → utf8 s ≡ true
 unfolding utf8
 encoded-utf8 s encoded = rw encoded.is (encoded-octets (length (encodeAll encoded.values)) encoded.scalars (omega arith))
+
+pub grammar_encodes : GrammarEncodes
+grammar_encodes s = (utf8-encoded s, encoded-utf8 s)

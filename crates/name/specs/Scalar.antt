@@ -1,5 +1,6 @@
 -- The encoding of a scalar value in RFC 3629, section 3: its bits from the highest on, six in each byte but the first.
-use Rattle.std.specs.Prelude.{◌≡◌, cond, List, [], ◌∷◌, ◌++◌, ℕ, ◌+◌, ◌/◌, ◌%◌, ◌≤◌, ◌<◌, ltb}
+use Rattle.std.specs.Prelude.{◌≡◌, true, cond, List, [], ◌∷◌, ◌++◌, ℕ, ◌+◌, ◌/◌, ◌%◌, ◌≤◌, ◌<◌, ltb}
+use Rattle.name.specs.Utf8.{utf8}
 
 -- 0 to 10FFFF without the surrogates D800 to DFFF.
 pub data Scalar : ℕ → Type 0 where
@@ -26,3 +27,7 @@ pub record Encoded (s : List ℕ) : Type 0 where
   pub values : List ℕ
   pub scalars : Scalars values
   pub is : s ≡ encodeAll values
+
+-- The grammar accepts these and nothing else.
+abbrev pub GrammarEncodes : Type 0
+GrammarEncodes = (s : List ℕ) → (utf8 s ≡ true → Encoded s) × (Encoded s → utf8 s ≡ true)

@@ -1,5 +1,5 @@
 -- UTF-8 by the grammar of RFC 3629, section 4. That it gives exactly the encodings of runs of scalar values, section 3's definition, is
--- a law (proofs/Utf8Laws.antt).
+-- a law (GrammarEncodes of Scalar.antt).
 use Rattle.std.specs.Prelude.{Bool, true, false, ◌&&◌, ◌||◌, List, [], ◌∷◌, ℕ, zero, suc, leb, eqb, length, drop}
 
 -- The bytes from the first number to the second.

@@ -1,6 +1,6 @@
 // Region names.
 ghost use Rattle.std.specs.Prelude.{◌≡◌, ◌≤◌, length};
-ghost use Rattle.name.specs.Name.{zeroAt, nameOk, named, padded, namedOutcome};
+ghost use Rattle.name.specs.Name.{zeroAt, nameOk, named, padded, namedOutcome, NamesAre, NamesBack};
 
 use codec::codec::{Writer, Written};
 use region::meta::MetaError;
@@ -80,3 +80,15 @@ fn zero_at(bytes: &[u8]) -> usize
     }
     bytes.len()
 }
+
+// Does nothing: its contract is that names are the encodings of scalar values in 1 to 24 bytes, none of them zero.
+#[tactic(auto, using(crate::proofs::NameLaws::names_are))]
+pub fn name_law()
+    ensures { NamesAre }
+{}
+
+// Does nothing: its contract is the round trip of names.
+#[tactic(auto, using(crate::proofs::NameLaws::names_back))]
+pub fn round_trip()
+    ensures { NamesBack }
+{}

@@ -1,6 +1,7 @@
 // UTF-8 as RFC 3629 defines it, a byte a step.
 ghost use Rattle.std.specs.Prelude.{◌≡◌};
 ghost use Rattle.name.specs.Utf8.{utf8};
+ghost use Rattle.name.specs.Scalar.{GrammarEncodes};
 ghost use Rattle.name.specs.Steps.{tail, firstByte, nextByte};
 
 // What is still to come of a character: `left` bytes, the next one from `low` to `high`, those behind it from 80 to BF.
@@ -91,3 +92,9 @@ fn tail_of(left: u8, low: u8, high: u8) -> Tail
 {
     Tail { left, low, high }
 }
+
+// Does nothing: its contract is that UTF-8 is the encodings of runs of scalar values, and nothing else.
+#[tactic(auto, using(crate::proofs::Utf8Laws::grammar_encodes))]
+pub fn grammar_law()
+    ensures { GrammarEncodes }
+{}

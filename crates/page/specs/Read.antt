@@ -1,4 +1,4 @@
--- What `decode_page` answers for any bytes (document 01, "Volume record and pages", and its refusals of `decode_page`): the header by
+-- What `decode_page` answers for any bytes (docs/FORMAT.md, "Pages" and "Refusals"): the header by
 -- offsets, and the checks in their order.
 use Rattle.std.specs.Prelude.{cond, not, List, ℕ, ◌+◌, ◌*◌, leb, ltb, eqb, length, take, drop}
 use Rattle.codec.specs.Bytes.{le16, le32, allZero}

@@ -1,4 +1,4 @@
--- What a page asks of its entries, 96 bytes each (document 01, "Volume record and pages", and its refusals of `decode_page` by entry).
+-- What a page asks of its entries, 96 bytes each (docs/FORMAT.md, "Pages" and "Refusals").
 use Rattle.std.specs.Prelude.{Bool, true, false, cond, not, List, [], ◌∷◌, ℕ, zero, suc, leb, eqb, drop}
 use Rattle.codec.specs.Bytes.{le16, le32}
 use Rattle.codec.specs.Outcome.{Outcome, given, refusal, and_then}

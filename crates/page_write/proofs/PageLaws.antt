@@ -9,7 +9,7 @@ use Rattle.codec.proofs.FieldLaws.{Field, number, run, ◌&◌, nil, At, ReadAt,
 use Rattle.region.proofs.OutcomeLaws.{passed}
 use Rattle.page_entries.specs.Entries.{seqs, contains, entryCheck, entriesCheck}
 use Rattle.page.specs.Read.{header, page, decodePage}
-use Rattle.page_write.specs.Write.{headerBytes, storedEntry, storedEntries, pageBytes, encodePage, encodedPage, Issued, none, more, Fits, Acceptable}
+use Rattle.page_write.specs.Write.{headerBytes, storedEntry, storedEntries, pageBytes, encodePage, encodedPage, Issued, none, more, Fits, Acceptable, PagesBack}
 use Rattle.page.specs.declared.meta2.PageHeader.{PageHeader}
 use Rattle.page.specs.declared.meta2.Page.{Page}
 use Rattle.page_write.proofs.WriteLaws.{length-header, length-entry, length-entries}
@@ -256,3 +256,11 @@ module _ (s : List ℕ) (small : AllBytes s) (index most : ℕ) {p : Page} (deco
         given_out = decoded.given_out;
         issued = entries-issued (header s).next_seq (header s).count (drop 24 s) decoded.entries;
       })
+
+pub pages_back : PagesBack
+pages_back =
+    record {
+      read_back = λ h s out len most encodes ok. encode-read h s out encodes most ok;
+      accepted = λ s small index most p decodes. page-acceptable s small index most decodes;
+      written_back = λ s small index most p decodes. page-written s small index most decodes;
+    }

@@ -1,10 +1,12 @@
--- What `encode_page` answers and writes (document 01, "Volume record and pages", and its refusals of `encode_page`): the page's layout
+-- What `encode_page` answers and writes (docs/FORMAT.md, "Pages" and "Refusals"): the page's layout
 -- as bytes one after the other; and which pages are acceptable.
 use Rattle.std.specs.Prelude.{◌≡◌, false, cond, not, List, [], ◌∷◌, ◌++◌, ℕ, zero, suc, ◌+◌, ◌*◌, ◌/◌, ◌%◌, ◌^◌, ◌≤◌, ◌<◌, ltb, eqb, length, take, drop, replicate}
-use Rattle.codec.specs.Bytes.{bytes16, bytes32, put}
+use Rattle.codec.specs.Bytes.{AllBytes, bytes16, bytes32, put}
 use Rattle.codec.specs.Outcome.{Outcome, given, refusal}
 use Rattle.page_entries.specs.Entries.{seqs, contains}
+use Rattle.page.specs.Read.{page, decodePage}
 use Rattle.page.specs.declared.meta2.PageHeader.{PageHeader}
+use Rattle.page.specs.declared.meta2.Page.{Page}
 
 -- 0 index; 4 next seq; 8 count; 10 fourteen zeros.
 unfoldable pub headerBytes : PageHeader → List ℕ
@@ -51,11 +53,20 @@ pub record Fits (h : PageHeader) : Type 0 where
   pub next : h.next_seq < 2 ^ 32
   pub count : h.count < 2 ^ 16
 
--- What a header and the entries s must hold to be decoded as a page of at most `most` entries. That these are the pages which are decoded
--- from what is written of them is a law (proofs/PageLaws.antt).
+-- What a header and the entries s must hold to be decoded as a page of at most `most` entries.
 pub record Acceptable (h : PageHeader) (s : List ℕ) (most : ℕ) : Type 0 where
   pub fits : Fits h
   pub whole : length s ≡ h.count * 96
   pub within : h.count ≤ most
   pub given_out : h.count ≤ h.next_seq
   pub issued : Issued h.next_seq (seqs h.count s)
+
+-- An acceptable page that was written is read back with its header; a page that is read is acceptable, and is written as the bytes that
+-- it was read from.
+pub record PagesBack : Type 0 where
+  pub read_back : (h : PageHeader) (s out : List ℕ) (len most : ℕ) → encodePage h s (length out) ≡ given len → Acceptable h s most
+      → decodePage (take len (encodedPage h s out)) h.page_index most ≡ given (page h)
+  pub accepted : (s : List ℕ) → AllBytes s → (index most : ℕ) (p : Page) → decodePage s index most ≡ given p
+      → Acceptable p.header (drop 24 s) most
+  pub written_back : (s : List ℕ) → AllBytes s → (index most : ℕ) (p : Page) → decodePage s index most ≡ given p
+      → pageBytes p.header (drop 24 s) ≡ s

@@ -4,7 +4,7 @@
 ghost use Rattle.std.specs.Prelude.{◌≡◌, ◌*◌, ◌/◌, length};
 ghost use Rattle.codec.specs.Cursor.{write, writtenAnswer};
 ghost use Rattle.region.specs.Error.{encodedOutcome};
-ghost use Rattle.page_write.specs.Write.{headerBytes, storedEntry, storedEntries, encodePage, encodedPage};
+ghost use Rattle.page_write.specs.Write.{headerBytes, storedEntry, storedEntries, encodePage, encodedPage, PagesBack};
 
 use codec::codec::{Writer, Written};
 use page::meta2::PageHeader;
@@ -92,3 +92,9 @@ fn write_entry(place: &mut [u8], entry: &[u8]) -> Written
     };
     Written::Next(w)
 }
+
+// Does nothing: its contract is the round trip of pages.
+#[tactic(auto, using(crate::proofs::PageLaws::pages_back))]
+pub fn round_trip()
+    ensures { PagesBack }
+{}

@@ -1,4 +1,4 @@
--- The numbers of a pair's report and of the answers to its questions (document 01, "Pair winner and payload"). A slot is 0 none, 1 A, 2 B.
+-- The numbers of a pair's report and of the answers to its questions (docs/FORMAT.md, "Pairs"). A slot is 0 none, 1 A, 2 B.
 use Rattle.std.specs.Prelude.{List, [], ◌∷◌, ℕ, replicate}
 use Rattle.codec.specs.Bytes.{flag}
 use Rattle.slot.specs.Status.{slotNumber, code, infoValues}
@@ -7,7 +7,7 @@ use Rattle.pair.specs.declared.pair.PairReport.{PairReport}
 use Rattle.pair.specs.declared.pair.WinnerInfo.{WinnerInfo}
 use Rattle.pair.specs.declared.pair.NextWrite.{NextWrite}
 
--- The numbers of document 01's standings, and behind them 4 Empty and 5 Fork.
+-- The numbers of the judge's standings, and behind them 4 Empty and 5 Fork.
 abbrev pub winnerNumber : Winner → ℕ
 winnerNumber (Winner.Confirmed index) = 0
 winnerNumber (Winner.Unconfirmed index) = 1

@@ -1,4 +1,4 @@
--- What `decide` and the questions to its report answer (document 01, "Pair winner and payload").
+-- What `decide` and the questions to its report answer (docs/FORMAT.md, "Pairs").
 use Rattle.std.specs.Prelude.{Bool, true, false, cond, not, ◌&&◌, ◌-◌, ltb, eqb}
 use Rattle.slot.specs.Status.{other, code, validInfo}
 use Rattle.slot.specs.declared.slot.SlotIndex.{SlotIndex}
@@ -11,10 +11,12 @@ use Rattle.pair.specs.declared.pair.WinnerInfo.{WinnerInfo}
 use Rattle.pair.specs.declared.pair.NextWrite.{NextWrite}
 
 -- Code 5 or 6.
+-- A later version may have a newer record there: the pair is neither read nor overwritten.
 abbrev pub refused : SlotStatus → Bool
 refused s = cond (eqb (code s) 5) true (eqb (code s) 6)
 
 -- A slot beside the one Valid slot that leaves it Confirmed: code 2, 4 or 11.
+-- An ordinary history leaves these: never written, or the last write torn. Anything else may have been a newer record.
 abbrev pub explained : SlotStatus → Bool
 explained s = cond (eqb (code s) 2) true (cond (eqb (code s) 4) true (eqb (code s) 11))
 
@@ -25,6 +27,7 @@ abbrev pub plain : SlotStatus → SlotStatus → Winner → PairReport
 plain a b winner = record { a = a; b = b; winner = winner; generation_gap = false; chain_break = false }
 
 -- Two Valid slots, the newer one at the index: the gap, and where there is none the chain break.
+-- A gap: an update is missing, or a slot was put back from elsewhere. A break: the newer record replaced another one than the older.
 abbrev pub ordered : SlotStatus → SlotStatus → SlotIndex → SlotInfo → SlotInfo → PairReport
 ordered a b index newer older =
     record {
@@ -37,6 +40,7 @@ ordered a b index newer older =
     }
 
 -- Equal generations Fork, else the higher is Confirmed.
+-- One generation in both slots comes from two writers or a repeated write, and the slots do not say which record was meant.
 abbrev pub twoValid : SlotStatus → SlotStatus → SlotInfo → SlotInfo → PairReport
 twoValid a b ia ib =
     cond (eqb ia.generation ib.generation) (plain a b Winner.Fork)
@@ -91,6 +95,6 @@ nextBy Winner.Fork = NextWrite.Nothing
 nextBy Winner.Refused = NextWrite.Nothing
 nextBy Winner.Lost = NextWrite.Nothing
 
--- Fork, Refused and Lost have no next write.
+-- Fork, Refused and Lost have no next write: there is no winner to follow.
 abbrev pub nextWrite : PairReport → NextWrite
 nextWrite r = nextBy r.winner

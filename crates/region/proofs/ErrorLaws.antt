@@ -1,6 +1,6 @@
--- The number of a refusal fixes its case: two refusals with the same number of document 01 are the same.
+-- The number of a refusal fixes its case: two refusals with the same number are the same.
 use Rattle.std.proofs.Common.{◌≡◌, refl, sym, ap, ◌∙◌, Bool, true, false, cond, ℕ, ◌≤◌, arith, ne_eqb, leb-false, ltb-true, leb, ltb, eqb}
-use Rattle.region.specs.Error.{fieldNumber, errorNumber}
+use Rattle.region.specs.Error.{fieldNumber, errorNumber, CaseFixed}
 use Rattle.region.specs.declared.meta.MetaError.{MetaError}
 
 -- A field's number is its own, and none of 11 to 13.
@@ -20,7 +20,7 @@ own n = low (ltb n 11) refl
     low true test = let is = ltb-true n 11 test in Own.under (simp test) (omega arith)
     low false test = high (leb n 13) refl test
 
--- The case that a number of document 01 belongs to.
+-- The case that a refusal's number belongs to.
 abbrev case_of : ℕ → MetaError
 case_of n =
     cond (eqb n 11) MetaError.Length
@@ -44,5 +44,5 @@ case-of (MetaError.Field n) told = field-case n told
 case-of MetaError.Duplicate told = refl
 case-of MetaError.Unaligned told = refl
 
-pub case-fixed : (e f : MetaError) → 1 ≤ errorNumber e → errorNumber e ≡ errorNumber f → e ≡ f
-case-fixed e f told is = sym (case-of e told) ∙ ap case_of is ∙ case-of f (rw is at told)
+pub case_fixed : CaseFixed
+case_fixed e f told is = sym (case-of e told) ∙ ap case_of is ∙ case-of f (rw is at told)

@@ -8,9 +8,9 @@ abbrev kinds : Bool → Bool → Bool → Outcome RegionKind
 kinds one two three = cond one (given RegionKind.Append) (cond two (given RegionKind.Page) (cond three (given RegionKind.Slot) (refusal 33)))
 
 -- A number that is no kind is 33.
-pub kind-refused : (v : ℕ) {number : ℕ} → kind_of v ≡ refusal number → kind_of v ≡ refusal 33
+pub kind_refused : (v : ℕ) {number : ℕ} → kind_of v ≡ refusal number → kind_of v ≡ refusal 33
 unfolding kind_of
-kind-refused v {number} is = go (eqb v 1) (eqb v 2) (eqb v 3) is
+kind_refused v {number} is = go (eqb v 1) (eqb v 2) (eqb v 3) is
   where
     go : (one two three : Bool) → kinds one two three ≡ refusal number → kinds one two three ≡ refusal 33
     go true two three is = let never : ◌≡◌ {A = ℕ} 0 1 = cc in absurd (omega arith)

@@ -1,4 +1,4 @@
--- Sizes of blocks and table slots: powers of two, log2 from 12 to 16 (document 01, "Volume record and pages").
+-- Sizes of blocks and table slots: powers of two, log2 from 12 to 16 (docs/FORMAT.md, "The volume record").
 use Rattle.std.specs.Prelude.{cond, ℕ, ◌-◌, ◌/◌, ◌^◌, ltb}
 
 -- Outside, the nearer end.

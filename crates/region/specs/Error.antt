@@ -1,20 +1,24 @@
--- Document 01's numbers for the refusals of metadata, and what a check or an encoder gives.
-use Rattle.std.specs.Prelude.{cond, List, ℕ, leb, ltb, length}
+-- The numbers of metadata's refusals (docs/FORMAT.md, "Refusals"), and what a check or an encoder gives.
+use Rattle.std.specs.Prelude.{◌≡◌, ◌≤◌, cond, List, ℕ, leb, ltb, length}
 use Rattle.codec.specs.Outcome.{Outcome, given, refusal}
 use Rattle.region.specs.declared.meta.MetaError.{MetaError}
 use Rattle.region.specs.declared.meta.Check.{Check}
 use Rattle.region.specs.declared.meta.MetaEncoded.{MetaEncoded}
 
--- A field's refusal. 11, 12 and 13 are no field's: said of one, they are no number of document 01, and 0 stands for that.
+-- A field's refusal. 11, 12 and 13 are no field's: said of one, they are no number of a refusal, and 0 stands for that.
 abbrev pub fieldNumber : ℕ → ℕ
 fieldNumber n = cond (ltb n 11) n (cond (leb n 13) 0 n)
 
--- 11 length, 12 duplicate, 13 not whole blocks; every other field has its own. So a number fixes the case (proofs/ErrorLaws.antt).
+-- 11 length, 12 duplicate, 13 not whole blocks; every other field has its own. So a number fixes the case (CaseFixed).
 abbrev pub errorNumber : MetaError → ℕ
 errorNumber MetaError.Length = 11
 errorNumber (MetaError.Field number) = fieldNumber number
 errorNumber MetaError.Duplicate = 12
 errorNumber MetaError.Unaligned = 13
+
+-- Two refusals with the same number are the same.
+abbrev pub CaseFixed : Type 0
+CaseFixed = (e f : MetaError) → 1 ≤ errorNumber e → errorNumber e ≡ errorNumber f → e ≡ f
 
 abbrev pub checkOutcome : Check → Outcome (Unit {0})
 checkOutcome Check.Pass = given tt

@@ -1,4 +1,4 @@
--- Region kinds (1 append, 2 page, 3 slot) and states (document 01, "Volume record and pages" and its refusals 33 and 34).
+-- Region kinds (1 append, 2 page, 3 slot) and states (docs/FORMAT.md, "Entries", and its numbers 33 and 34).
 use Rattle.std.specs.Prelude.{cond, ℕ, eqb}
 use Rattle.codec.specs.Outcome.{Outcome, given, refusal}
 use Rattle.region.specs.Error.{errorNumber}

@@ -1,6 +1,6 @@
 // What the metadata records share: refusals, region kinds and states.
 ghost use Rattle.std.specs.Prelude.{◌≡◌};
-ghost use Rattle.region.specs.Error.{fieldNumber, errorNumber};
+ghost use Rattle.region.specs.Error.{fieldNumber, errorNumber, CaseFixed};
 ghost use Rattle.region.specs.Kind.{kindNumber, kind_of, kindOutcome, stateNumber, state_of, stateOutcome};
 
 // Why a payload failed to decode or encode.
@@ -42,6 +42,12 @@ fn field_number(number: u8) -> u8
     }
     number
 }
+
+// Does nothing: its contract is that a refusal's number fixes its case.
+#[tactic(auto, using(crate::proofs::ErrorLaws::case_fixed))]
+pub fn case_law()
+    ensures { CaseFixed }
+{}
 
 // A check: passed, or the first refusal.
 #[derive(Clone, Copy)]

@@ -1,4 +1,4 @@
--- What the judge over a row (document 01, "Store verdict") answers for the pairs that frames stand for, and the verdicts that it
+-- What the judge over a row (docs/FORMAT.md, "The store verdict") answers for the pairs that frames stand for, and the verdicts that it
 -- leaves in an array of five.
 use Rattle.std.specs.Prelude.{Bool, cond, List, ◌++◌, ℕ, ◌*◌, ◌%◌, eqb, leb, length, take, drop, replicate}
 use Rattle.verdict.specs.declared.verdict.PairVerdict.{PairVerdict}

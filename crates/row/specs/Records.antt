@@ -1,4 +1,4 @@
--- What record a frame (document 01, "Store verdict") stands for: the statuses by their numbers, the info of a Valid slot and the
+-- What record a frame (docs/FORMAT.md, "Frames") stands for: the statuses by their numbers, the info of a Valid slot and the
 -- header's facts from the part's fields.
 use Rattle.std.specs.Prelude.{cond, List, [], ◌∷◌, eqb}
 use Rattle.slot.specs.declared.slot.HeaderFacts.{HeaderFacts}

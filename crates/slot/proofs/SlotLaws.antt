@@ -4,7 +4,7 @@ use Rattle.std.proofs.Common.{◌≡◌, refl, ap, ap₂, ◌∙◌, List, ◌++
 use Rattle.codec.specs.Bytes.{le16, le32}
 use Rattle.codec.specs.Crc32c.{crc32c}
 use Rattle.codec.proofs.CursorLaws.{agree-byte, agree-number, agree-front, agree-run}
-use Rattle.slot.specs.Read.{header, headerSum, integrity, shape, place, check, parseHeader, payload, payloadOk, status, validate, headerFacts}
+use Rattle.slot.specs.Read.{header, headerSum, integrity, shape, place, check, parseHeader, payload, payloadOk, status, validate, headerFacts, PaddingLaw}
 use Rattle.slot.specs.declared.slot.Expect.{Expect}
 use Rattle.slot.specs.declared.slot.SlotInfo.{SlotInfo}
 use Rattle.slot.specs.declared.slot.RawHeader.{RawHeader}
@@ -80,3 +80,10 @@ module _ (m : ℕ) (s t : List ℕ) (same : take m s ≡ take m t) (least : 128 
       go : (answer : Parsed) → parseHeader s e ≡ answer → status s answer ≡ status t answer
       go (Parsed.Failed failure) is = refl
       go (Parsed.Passed i crc) is = simp (payloads i crc is)
+
+pub padding_law : PaddingLaw
+padding_law =
+    record {
+      facts-same = λ m s t h. facts-same m s t h.same h.least h.whole h.sizes;
+      status-same = λ m s t h. validate-same m s t h.same h.least h.whole h.sizes;
+    }

@@ -2,7 +2,7 @@
 use Rattle.std.proofs.Common.{◌≡◌, refl, Bool, true, false, cond, not, List, ℕ, ◌+◌, ◌≤◌, arith, leb, ltb, eqb, lit≤, length, take, drop}
 use Rattle.codec.specs.Bytes.{same, allZero}
 use Rattle.slot.specs.Status.{indexNumber, code, validInfo}
-use Rattle.slot.specs.Read.{magic, header, headerSum, lengthOk, integrity, numberOk, shape, place, and_then, check, parsed, parseHeader, payloadOk, status as statusBy, validate}
+use Rattle.slot.specs.Read.{magic, header, headerSum, lengthOk, integrity, numberOk, shape, place, and_then, check, parsed, parseHeader, payloadOk, status as statusBy, validate, StatusRange}
 use Rattle.slot.specs.declared.slot.Expect.{Expect}
 use Rattle.slot.specs.declared.slot.SlotInfo.{SlotInfo}
 use Rattle.slot.specs.declared.slot.SlotStatus.{SlotStatus}
@@ -97,10 +97,9 @@ code-small SlotStatus.Misplaced = lit≤ tt
 code-small SlotStatus.BadPayloadCrc = lit≤ tt
 code-small (SlotStatus.Valid i) = lit≤ tt
 
--- `validate` answers 1 to 12: ReadError is set by the host alone.
-pub validate-code : (s : List ℕ) (e : Expect) → (1 ≤ code (validate s e)) × (code (validate s e) ≤ 12)
+pub status_range : StatusRange
 unfolding validate
-validate-code s e = (go (lengthOk (length s) e.log2_slot_size) (allZero (take 128 s)), code-small (validate s e))
+status_range s e = (go (lengthOk (length s) e.log2_slot_size) (allZero (take 128 s)), code-small (validate s e))
   where
     by-failure : (status : SlotStatus) → Failure status → 1 ≤ code status
     by-failure status (failure from-1 not-blank not_valid) = from-1

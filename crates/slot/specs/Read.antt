@@ -1,9 +1,9 @@
--- What `validate` and `header_facts` answer for any bytes (document 01, "Slot status"): the header by offsets, and the checks in their
--- order, each with the status that it fails with.
-use Rattle.std.specs.Prelude.{Bool, false, cond, not, List, [], ◌∷◌, ◌++◌, ℕ, ◌+◌, ◌-◌, ◌^◌, leb, ltb, eqb, length, get_or, take, drop, replicate}
+-- What `validate` and `header_facts` answer for any bytes (docs/FORMAT.md, "Slot status" and "Header facts"): the header by offsets, and
+-- the checks in their order, each with the status that it fails with.
+use Rattle.std.specs.Prelude.{◌≡◌, ◌≤◌, Bool, false, cond, not, List, [], ◌∷◌, ◌++◌, ℕ, ◌+◌, ◌-◌, ◌^◌, leb, ltb, eqb, length, get_or, take, drop, replicate}
 use Rattle.codec.specs.Bytes.{le16, le32, le64, same, allZero}
 use Rattle.codec.specs.Crc32c.{crc32c}
-use Rattle.slot.specs.Status.{indexNumber}
+use Rattle.slot.specs.Status.{indexNumber, code}
 use Rattle.slot.specs.declared.slot.Expect.{Expect}
 use Rattle.slot.specs.declared.slot.SlotInfo.{SlotInfo}
 use Rattle.slot.specs.declared.slot.SlotStatus.{SlotStatus}
@@ -54,6 +54,8 @@ unfoldable pub headerSum : List ℕ → ℕ → ℕ
 headerSum s n = crc32c (take 8 s ++ replicate 4 0 ++ take (n - 12) (drop 12 s))
 
 -- Magic 3; header length below 128 or above the slot, or checksum 4; format 5; an incompatible flag 6.
+-- Until the checksum has passed no field can be relied on. In another format, or with a flag that is not known, the fields behind may
+-- mean something else: such a slot is neither read nor overwritten.
 unfoldable pub integrity : List ℕ → RawHeader → ℕ → Check
 integrity s h format =
     cond (not (same (take 8 s) magic)) (Check.Fail SlotStatus.BadMagic)
@@ -67,10 +69,12 @@ integrity s h format =
     Check.Pass)))))))
 
 -- The number is at least 1 in format 2 read as numbered, else 0.
+-- The volume record and the table pages are numbered, other objects are not.
 unfoldable pub numberOk : ℕ → Bool → ℕ → Bool
 numberOk format numbered number = cond numbered (cond (eqb format 2) (ltb 0 number) (eqb number 0)) (eqb number 0)
 
 -- Generation 0, count, index, zero fields, number, or format 2 with another header length than 128: 7.
+-- The checksum has passed, so these values were written so: no power cut leaves them.
 unfoldable pub shape : List ℕ → RawHeader → Bool → Check
 shape s h numbered =
     cond (eqb h.generation 0) (Check.Fail SlotStatus.Malformed)
@@ -84,6 +88,8 @@ shape s h numbered =
     Check.Pass)))))))
 
 -- Volume 8; object 9; offset, index, log2 10; payload too long for the slot 7.
+-- The payload's length comes after identity and size: a header of a larger slot is Misplaced and not Malformed, and only of this slot
+-- does its length say anything.
 unfoldable pub place : List ℕ → RawHeader → Expect → Check
 place s h e =
     cond (not (same (take 16 (drop 32 s)) e.volume_uuid)) (Check.Fail SlotStatus.Foreign)
@@ -132,6 +138,7 @@ unfoldable pub payloadLength : SlotInfo → ℕ → ℕ
 payloadLength i len = cond (ltb len (i.payload_start + i.payload_len)) 0 i.payload_len
 
 -- The payload's bytes.
+-- What lies behind them is never looked at: a record stands whole as soon as its own bytes do.
 unfoldable pub payload : SlotInfo → List ℕ → List ℕ
 payload i s = take (payloadLength i (length s)) (drop (payloadStart i (length s)) s)
 
@@ -143,6 +150,7 @@ status s (Parsed.Failed failure) = failure
 status s (Parsed.Passed i crc) = cond (payloadOk s i crc) (SlotStatus.Valid i) SlotStatus.BadPayloadCrc
 
 -- Expected log2 outside 9..16 or another length 1; first 128 bytes zero 2; the header's checks; payload checksum 11; Valid 12.
+-- A wrong length is a mistake of the caller, and a header of zeros was never written.
 unfoldable pub validate : List ℕ → Expect → SlotStatus
 validate s e =
     cond (not (lengthOk (length s) e.log2_slot_size)) SlotStatus.BadLength
@@ -156,8 +164,27 @@ facts stored (Parsed.Passed i crc) =
 
 -- The stored checksum whenever magic stands in a non-blank slot of the expected length; generation, number and previous checksum if
 -- all but the payload checksum passes.
+-- The stored checksum, right or not, tells whether a damaged slot is the one that the winner replaced. The others may be a mixture of
+-- two writes unless the header passes.
 unfoldable pub headerFacts : List ℕ → Expect → HeaderFacts
 headerFacts s e =
     cond (not (lengthOk (length s) e.log2_slot_size)) HeaderFacts.Nothing
     (cond (allZero (take 128 s)) HeaderFacts.Nothing
     (cond (not (same (take 8 s) magic)) HeaderFacts.Nothing (facts (le32 s 8) (parseHeader s e))))
+
+-- Two slots of one length that agree in their first m bytes, at least 128 and at least as many as their header says it has.
+pub record SameHeader (m : ℕ) (s t : List ℕ) : Type 0 where
+  pub same : take m s ≡ take m t
+  pub least : 128 ≤ m
+  pub whole : le16 s 12 ≤ m
+  pub sizes : length s ≡ length t
+
+-- Such slots show the same, and have the same status where they have the same payload: the bytes behind the payload do not count.
+pub record PaddingLaw : Type 0 where
+  pub facts-same : (m : ℕ) (s t : List ℕ) → SameHeader m s t → (e : Expect) → headerFacts s e ≡ headerFacts t e
+  pub status-same : (m : ℕ) (s t : List ℕ) → SameHeader m s t → (e : Expect)
+      → ((i : SlotInfo) (crc : ℕ) → parseHeader s e ≡ Parsed.Passed i crc → payload i s ≡ payload i t) → validate s e ≡ validate t e
+
+-- A slot's status is 1 to 12: ReadError is set by the host alone.
+abbrev pub StatusRange : Type 0
+StatusRange = (s : List ℕ) (e : Expect) → (1 ≤ code (validate s e)) × (code (validate s e) ≤ 12)

@@ -1,4 +1,4 @@
--- Document 01's numbers and values for each case of the slot's enums.
+-- The numbers and values of each case of the slot's enums (docs/FORMAT.md, "Slot status" and "Header facts").
 use Rattle.std.specs.Prelude.{Bool, true, false, List, [], ◌∷◌, ℕ, replicate}
 use Rattle.slot.specs.declared.slot.SlotIndex.{SlotIndex}
 use Rattle.slot.specs.declared.slot.SlotInfo.{SlotInfo}
@@ -23,6 +23,8 @@ other SlotIndex.A = SlotIndex.B
 other SlotIndex.B = SlotIndex.A
 
 -- Slot status codes.
+-- 0 is set by the host alone, for a slot that it could not read. 4 and 11 are what a write leaves that was cut in its header or in its
+-- payload.
 abbrev pub code : SlotStatus → ℕ
 code SlotStatus.ReadError = 0
 code SlotStatus.BadLength = 1

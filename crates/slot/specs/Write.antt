@@ -1,4 +1,4 @@
--- What `encode` writes (document 01, "Slot status", and its refusals 1 to 5): the same layout, as bytes one after the other.
+-- What `encode` writes, and its refusals 1 to 5 (docs/FORMAT.md, "Writing a slot"): the same layout, as bytes one after the other.
 use Rattle.std.specs.Prelude.{cond, not, List, ◌++◌, ℕ, ◌+◌, ◌-◌, ◌^◌, ltb, eqb, length, replicate}
 use Rattle.codec.specs.Bytes.{bytes, bytes16, bytes32, bytes64}
 use Rattle.codec.specs.Crc32c.{crc32c}
@@ -8,6 +8,8 @@ use Rattle.slot.specs.Read.{magic}
 use Rattle.slot.specs.declared.slot.SlotFields.{SlotFields}
 
 -- The header in three parts. Bytes 0 to 32: magic, both checksums, header length, format and flags.
+-- No incompatible and no read-only flag is defined; a winner with a read-only flag is never rewritten. Compatible flags are the winner's,
+-- so that a write by an earlier release keeps those of a later one.
 unfoldable pub frontBytes : ℕ → SlotFields → ℕ → List ℕ
 frontBytes crc f payloadCrc =
     magic
@@ -20,6 +22,7 @@ frontBytes crc f payloadCrc =
     ++ bytes32 payloadCrc
 
 -- Bytes 32 to 80: which slot this is, and the length of its payload.
+-- Offset and index find a write that went elsewhere.
 unfoldable pub identityBytes : SlotFields → ℕ → List ℕ
 identityBytes f len =
     f.volume_uuid
@@ -33,6 +36,7 @@ identityBytes f len =
     ++ bytes 1 0
 
 -- Bytes 80 to 128: the previous header's checksum, owner generation and number.
+-- The first ties a record to the one that it replaces, the number orders the writes of the whole store.
 unfoldable pub historyBytes : SlotFields → List ℕ
 historyBytes f =
     bytes32 f.prev_header_crc32c
@@ -46,6 +50,7 @@ unfoldable pub headerBytes : ℕ → SlotFields → ℕ → ℕ → List ℕ
 headerBytes crc f len payloadCrc = frontBytes crc f payloadCrc ++ identityBytes f len ++ historyBytes f
 
 -- The header's checksum counts its own four bytes as zero.
+-- A field cannot hold the checksum of itself.
 unfoldable pub headerCrc : SlotFields → List ℕ → ℕ
 headerCrc f payload = crc32c (headerBytes 0 f (length payload) (crc32c payload))
 
@@ -58,6 +63,7 @@ slotBytes f payload =
     writtenHeader f payload ++ payload ++ replicate (2 ^ f.log2_slot_size - (128 + length payload)) 0
 
 -- 1 log2; 2 buffer length; 3 payload; 4 generation 0; 5 format, or number in format 1; 0 for none.
+-- All are mistakes of the caller, none of the medium.
 unfoldable pub encodeRefusal : SlotFields → List ℕ → ℕ → ℕ
 encodeRefusal f payload room =
     cond (ltb f.log2_slot_size 9) 1

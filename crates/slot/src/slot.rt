@@ -32,7 +32,7 @@
 ghost use Rattle.std.specs.Prelude.{◌≡◌, length, eqb};
 ghost use Rattle.codec.specs.Place.{Part};
 ghost use Rattle.slot.specs.Status.{indexNumber, slotNumber, other, code, isValid, validInfo};
-ghost use Rattle.slot.specs.Read.{payloadStart, payloadLength};
+ghost use Rattle.slot.specs.Read.{payloadStart, payloadLength, PaddingLaw, StatusRange};
 
 // Which slot of a pair.
 #[derive(Clone, Copy)]
@@ -155,7 +155,7 @@ pub enum SlotStatus {
 }
 
 impl SlotStatus {
-    // Document 01's number of the status.
+    // The number of the status.
     pub fn code(self) -> u8
         ensures { result ≡ code self }
     {
@@ -286,3 +286,15 @@ pub enum Parsed {
     Passed(SlotInfo, u32),
     Failed(SlotStatus),
 }
+
+// Does nothing: its contract is that the bytes behind the payload do not count.
+#[tactic(auto, using(crate::proofs::SlotLaws::padding_law))]
+pub fn padding_law()
+    ensures { PaddingLaw }
+{}
+
+// Does nothing: its contract is that a slot's status is 1 to 12.
+#[tactic(auto, using(crate::proofs::StatusLaws::status_range))]
+pub fn status_law()
+    ensures { StatusRange }
+{}

@@ -1,4 +1,4 @@
--- Document 01's starred examples, "Slots and pages at their edges", in its order, said of the definitions that the contracts cite; and the
+-- Examples at the edges of slots and pages, said of the definitions that the contracts cite (docs/FORMAT.md has their rules); and the
 -- capacities of a page.
 use Rattle.std.specs.Prelude.{◌≡◌, true, false, List, [], ◌∷◌, ℕ, replicate}
 use Rattle.codec.specs.Crc32c.{crc32c}
@@ -126,7 +126,7 @@ pub record Starred : Type 0 where
   pub table-end : table_end volume ≡ given 16384
   pub file-16383 : fileCheck volume 16383 ≡ refusal 26
 
--- Entries per page for log2 12 to 16 (document 01, "Volume record and pages").
+-- Entries per page for log2 12 to 16 (docs/FORMAT.md, "The volume record").
 abbrev pub Capacities : Type 0
 Capacities =
     (entriesPerPage 12 ≡ 41) × (entriesPerPage 13 ≡ 83) × (entriesPerPage 14 ≡ 169) × (entriesPerPage 15 ≡ 339)

@@ -1,4 +1,4 @@
-// The starred examples, "Slots and pages at their edges".
+// Examples at the edges of slots and pages.
 #![tactic(auto)]
 
 ghost use Rattle.starred.specs.Starred.{Starred, Capacities};

@@ -1,4 +1,4 @@
--- What a C host finds after a call (document 01, "A refusal returns its number alone"): the number of a refusal, 0 for none, and
+-- What a C host finds after a call (docs/FORMAT.md, "The C interface"): the number of a refusal, 0 for none, and
 -- numbers that a refusal leaves as they were.
 use Rattle.std.specs.Prelude.{ℕ}
 use Rattle.codec.specs.Cursor.{Answer, done, refused}

@@ -1,12 +1,14 @@
 // The winner's payload for C hosts: its slot, and where it lies in that slot's bytes.
-ghost use Rattle.std.specs.Prelude.{◌≡◌, length};
+ghost use Rattle.std.specs.Prelude.{◌≡◌, List, ℕ, length};
+ghost use Rattle.std.specs.Borrow.{Bor};
 ghost use Rattle.slot.specs.Status.{statusValues};
 ghost use Rattle.pair.specs.Pair.{winnerInfo};
 ghost use Rattle.pair.specs.Numbers.{reportNumbers, winnerIndex};
-ghost use Rattle.host_slots.specs.Winners.{pair_of, winnerStart, winnerLength};
+ghost use Rattle.winner.specs.Winner.{WinnerPart};
+ghost use Rattle.host_slots.specs.Winners.{pair_of, winnerStart, winnerLength, PlacedAt};
 
 use host_slots::slots::expect_of;
-use host_slots::winners::{winner_index, winner_start};
+use host_slots::winners::winner_place;
 
 // Validates both slots of a pair and names the winner's payload.
 #[unsafe(no_mangle)]
@@ -33,6 +35,7 @@ pub extern "C" fn sio_winner_payload<'a>(
     ensures report_after { report.new ≡ reportNumbers (pair_of a.now b.now volume0 volume1 object_id a_offset b_offset log2_slot_size format_major numbered) }
     ensures start_after { start.new ≡ winnerStart (length a.now) (length b.now) (winnerInfo (pair_of a.now b.now volume0 volume1 object_id a_offset b_offset log2_slot_size format_major numbered)) }
     ensures payload_len_after { payload_len.new ≡ winnerLength (length a.now) (length b.now) (winnerInfo (pair_of a.now b.now volume0 volume1 object_id a_offset b_offset log2_slot_size format_major numbered)) }
+    ensures place { (part : Bor (List ℕ)) → WinnerPart (winnerInfo (pair_of a.now b.now volume0 volume1 object_id a_offset b_offset log2_slot_size format_major numbered)) a.entry b.entry part → PlacedAt result start.new payload_len.new a.entry b.entry part }
 {
     let expect_a = expect_of(
         volume0,
@@ -55,9 +58,11 @@ pub extern "C" fn sio_winner_payload<'a>(
         numbered,
     );
     let read = winner::read_pair(a, expect_a, b, expect_b);
-    let part = winner::winner_payload(a, expect_a, b, expect_b, values_a, values_b, report);
-    let info = read.winner_info();
-    *start = winner_start(info, a.len(), b.len());
-    *payload_len = part.len();
-    winner_index(info)
+    *values_a = winner::status_values(read.a);
+    *values_b = winner::status_values(read.b);
+    *report = winner::report_numbers(read);
+    let place = winner_place(read.winner_info(), a, b);
+    *start = place.start;
+    *payload_len = place.len;
+    place.slot
 }

@@ -1,5 +1,5 @@
--- The lines that program `verdicts` prints (document 01, "Store verdict"): a line a pair, then one line for the store; or R and a number.
--- Bytes are two lower-case hexadecimal digits each, and a newline ends every line.
+-- The lines that program `verdicts` prints (docs/FORMAT.md, "The program verdicts"): a line a pair, then one line for the store; or R
+-- and a number. Bytes are two lower-case hexadecimal digits each, and a newline ends every line.
 use Rattle.std.specs.Prelude.{cond, List, [], ◌∷◌, ◌++◌, ℕ, zero, suc, ◌+◌, ◌*◌, ◌/◌, ◌%◌, ltb, leb, length, take, drop}
 use Rattle.codec.specs.Bytes.{bytes32, flag}
 use Rattle.cases.specs.Line.{newline}

@@ -33,7 +33,7 @@ pub fn validate(slot: &[u8], e: Expect) -> SlotStatus
 }
 
 // What `slot`'s header shows: nothing where the length is wrong, the slot is blank or its magic does not stand.
-#[tactic(auto, unfolding(slot::specs::Read::headerFacts, codec::specs::Cursor::step))]
+#[tactic(auto, unfolding(slot::specs::Read::headerFacts))]
 pub fn header_facts(slot: &[u8], e: Expect) -> HeaderFacts
     ensures value { result ≡ headerFacts slot.now e }
     ensures result_value { factsNumbers result ≡ factsNumbers (headerFacts slot.now e) }

@@ -13,13 +13,7 @@ use Rattle.verdict.specs.declared.verdict.Standing.{Standing}
 use Rattle.verdict.specs.declared.verdict.PairVerdict.{PairVerdict}
 use Rattle.verdict.specs.declared.verdict.Heal.{Heal}
 use Rattle.verdict.specs.Verdict.{byIndex, pairVerdict, winnerBeside, isInFlight, inFlight}
-use Rattle.verdict.specs.Judge.{verdictsFrom, firstVerdicts, volumeVerdict, candidates, firstTally, cleanMark, storeRules, demotedSlot, demoted, lastVerdicts, pairHeal, or_else, heal, rowRules, verdicts, judgeRow}
-
--- The verdict on a slot of the kth pair; Damage where there is no such pair.
-abbrev pub slot_at : List PairVerdict → ℕ → SlotIndex → SlotVerdict
-slot_at [] k index = SlotVerdict.Damage
-slot_at (v ∷ vs) zero index = byIndex index v.a v.b
-slot_at (v ∷ vs) (suc k) index = slot_at vs k index
+use Rattle.verdict.specs.Judge.{verdictsFrom, firstVerdicts, volumeVerdict, candidates, firstTally, cleanMark, storeRules, demotedSlot, demoted, lastVerdicts, pairHeal, or_else, heal, rowRules, verdicts, judgeRow, slot_at, HealNames}
 
 -- How many slots of a pair are in flight, and of a row.
 abbrev pairInFlight : PairVerdict → ℕ
@@ -186,12 +180,9 @@ one-named i (v ∷ vs) zero index most flies =
 one-named i (v ∷ vs) (suc k) index most flies =
     rw (one-named (i + 1) vs k index (omega arith) flies) (ap (λ (pair : ℕ). Heal.Slot pair index) (omega arith))
 
--- A slot is named for healing if and only if its last verdict is InFlight.
-pub heal-names : (ps : List PairPart) (clean : Bool) (k : ℕ) (index : SlotIndex)
-    → ((judgeRow ps clean).heal ≡ Heal.Slot k index → slot_at (verdicts ps clean) k index ≡ SlotVerdict.InFlight)
-    × (slot_at (verdicts ps clean) k index ≡ SlotVerdict.InFlight → (judgeRow ps clean).heal ≡ Heal.Slot k index)
+pub heal_names : HealNames
 unfolding judgeRow
-heal-names ps clean k index = (
+heal_names ps clean k index = (
   λ is. go (heal 0 (verdicts ps clean)) (named (verdicts ps clean) 0) is,
   λ flies. one-named 0 (verdicts ps clean) k index (one-in-flight ps clean) flies ∙ ap (λ (pair : ℕ). Heal.Slot pair index) (zero-add k),
 )

@@ -1,5 +1,5 @@
 -- The passes as the code makes them are those of the definition: a candidate's number is the one its slot counts for, so the code's
--- rule and document 01's agree on every pair; the tally kept from pair to pair gives the rules that the whole row's gives, since only
+-- rule and the definition's agree on every pair; the tally kept from pair to pair gives the rules that the whole row's gives, since only
 -- whether its count is 1 is asked; and the slot to heal found from pair to pair is the last in flight.
 use Rattle.std.proofs.Common.{◌≡◌, refl, ap, ◌∙◌, subst, Bool, true, false, cond, List, [], ◌∷◌, ℕ, suc, ◌+◌, ◌*◌, ◌≤◌, min, zero-add, arith, eqb, ltb}
 use Rattle.slot.specs.declared.slot.SlotIndex.{SlotIndex}

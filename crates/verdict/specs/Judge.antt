@@ -1,6 +1,6 @@
--- The verdict on the whole store (document 01, "Store verdict"; judge.rs): two passes over the row of its pairs. Pair 0 is the volume
--- record, the others are table pages.
-use Rattle.std.specs.Prelude.{Bool, true, false, cond, not, List, [], ◌∷◌, ℕ, suc, ◌+◌, ◌*◌, eqb}
+-- The verdict on the whole store (docs/FORMAT.md, "The store verdict"; judge.rs): two passes over the row of its pairs. Pair 0 is the
+-- volume record, the others are table pages.
+use Rattle.std.specs.Prelude.{◌≡◌, Bool, true, false, cond, not, List, [], ◌∷◌, ℕ, zero, suc, ◌+◌, ◌*◌, eqb}
 use Rattle.slot.specs.declared.slot.SlotIndex.{SlotIndex}
 use Rattle.frame.specs.declared.frame.SlotPart.{SlotPart}
 use Rattle.candidate.specs.declared.pairs.PairPart.{PairPart}
@@ -61,10 +61,15 @@ firstTally ps vs =
 -- ---- the second pass
 
 -- The clean mark counts if the volume record is Confirmed with no candidate of its own.
+-- Under it the last writer closed the store, so no write was in flight. A volume record that is itself being written may carry an old
+-- mark.
 unfoldable pub cleanMark : Bool → PairVerdict → Bool
 cleanMark clean volume = cond (confirmed volume.standing) (cond (inFlight volume) false clean) false
 
 -- Which writes in flight are demoted to damage, from the first pass.
+-- A power cut tears one write: of two candidates at least one is damage. Damage elsewhere may hide the true highest number, and then
+-- to heal a page could undo a record that was durable. The volume record is healed in a troubled store as well: what its writes change is
+-- the clean mark and the owner generation, and each opening for writing writes it again, so nothing is undone.
 unfoldable pub storeRules : Bool → Tally → PairVerdict → StoreRules
 storeRules clean t volume =
     record {
@@ -109,6 +114,7 @@ heal i [] = Heal.Nothing
 heal i (v ∷ vs) = or_else (heal (i + 1) vs) (pairHeal i v)
 
 -- From the volume record's standing after the first pass and after the second.
+-- A write of the volume record would remove the evidence by which a page's candidate was judged.
 unfoldable pub writable : Bool → Bool → Standing → Standing → Bool
 writable anyRefused pageCandidate first last =
     cond anyRefused false (cond (withoutWinner first) false (cond (unconfirmed last) (not pageCandidate) true))
@@ -138,3 +144,16 @@ judgeRow ps clean =
       clean = (rowRules ps clean).clean;
       refused = anyRefused (firstVerdicts ps);
     }
+
+-- The verdict on a slot of the kth pair; Damage where there is no such pair.
+abbrev pub slot_at : List PairVerdict → ℕ → SlotIndex → SlotVerdict
+slot_at [] k index = SlotVerdict.Damage
+slot_at (v ∷ vs) zero index = byIndex index v.a v.b
+slot_at (v ∷ vs) (suc k) index = slot_at vs k index
+
+-- A slot is named for healing if and only if its last verdict is InFlight.
+abbrev pub HealNames : Type 0
+HealNames =
+    (ps : List PairPart) (clean : Bool) (k : ℕ) (index : SlotIndex)
+    → ((judgeRow ps clean).heal ≡ Heal.Slot k index → slot_at (verdicts ps clean) k index ≡ SlotVerdict.InFlight)
+    × (slot_at (verdicts ps clean) k index ≡ SlotVerdict.InFlight → (judgeRow ps clean).heal ≡ Heal.Slot k index)

@@ -1,4 +1,4 @@
--- The verdict on one pair after the first pass, and document 01's numbers for it.
+-- The verdict on one pair after the first pass, and its numbers (docs/FORMAT.md, "The store verdict").
 use Rattle.std.specs.Prelude.{Bool, true, false, cond, List, [], ◌∷◌, ℕ}
 use Rattle.slot.specs.declared.slot.SlotIndex.{SlotIndex}
 use Rattle.slot.specs.Status.{slotNumber, other}
@@ -17,6 +17,7 @@ byIndex SlotIndex.A x y = x
 byIndex SlotIndex.B x y = y
 
 -- The slot opposite the winner, where `qualifies` says which numbers qualify.
+-- A candidate that does not qualify is not the last write of the store, so no power cut explains it.
 abbrev pub slotVerdict : (MetaSeq → Bool) → Opposite → SlotVerdict
 slotVerdict qualifies Opposite.Nothing = SlotVerdict.Nothing
 slotVerdict qualifies Opposite.OlderDamaged = SlotVerdict.OlderDamaged
@@ -24,6 +25,7 @@ slotVerdict qualifies (Opposite.Candidate seq) = cond (qualifies seq) SlotVerdic
 slotVerdict qualifies Opposite.Damage = SlotVerdict.Damage
 
 -- The winner's standing beside a slot of this verdict.
+-- Beside damage the winner is Unconfirmed: a newer record may have been destroyed.
 abbrev pub standingBeside : SlotVerdict → Standing
 standingBeside SlotVerdict.Winner = Standing.Confirmed
 standingBeside SlotVerdict.Nothing = Standing.Confirmed

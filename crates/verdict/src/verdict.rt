@@ -7,7 +7,7 @@ ghost use Rattle.std.specs.Prelude.{◌≡◌, cond, true, false, eqb};
 ghost use Rattle.candidate.specs.Pairs.{hasCandidate};
 ghost use Rattle.candidate.specs.Maxima.{qualifiesBy, byMaxima};
 ghost use Rattle.verdict.specs.Verdict.{slotVerdict, standingBeside, winnerBeside, noWinner, pairVerdict, isInFlight, inFlight, confirmed, refused, unconfirmed, withoutWinner};
-ghost use Rattle.verdict.specs.Judge.{demotedSlot, demoted, cleanMark, storeRules, writable};
+ghost use Rattle.verdict.specs.Judge.{demotedSlot, demoted, cleanMark, storeRules, writable, HealNames};
 ghost use Rattle.verdict.specs.Passes.{count, tallied, healOf};
 
 use candidate::numbers::Maxima;
@@ -418,3 +418,9 @@ pub fn writable(t: Tally, first: Standing, last: Standing) -> bool
     }
     true
 }
+
+// Does nothing: its contract is that a slot is named for healing if and only if its last verdict is InFlight.
+#[tactic(auto, using(crate::proofs::HealLaws::heal_names))]
+pub fn heal_law()
+    ensures { HealNames }
+{}

@@ -1,5 +1,5 @@
--- The lines that program `verdicts` reads (document 01, "Store verdict"): lines of lower-case hexadecimal, each ended by a newline, the
--- clean mark, 00 or 01, then one frame a line.
+-- The lines that program `verdicts` reads (docs/FORMAT.md, "The program verdicts"): lines of lower-case hexadecimal, each ended by a
+-- newline, the clean mark, 00 or 01, then one frame a line.
 use Rattle.std.specs.Prelude.{cond, List, [], ◌∷◌, ◌++◌, ℕ, eqb, length}
 use Rattle.std.proofs.Math.Option.{Option, some, none, map}
 use Rattle.cases.specs.Hex.{decoded}

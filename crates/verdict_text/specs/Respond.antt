@@ -1,4 +1,4 @@
--- What `respond` answers (document 01, program `verdicts`) by the room of the lent output, and what it leaves there: the text at its
+-- What `respond` answers (docs/FORMAT.md, "The program verdicts") by the room of the lent output, and what it leaves there: the text at its
 -- front, or what it held.
 use Rattle.std.specs.Prelude.{Bool, cond, List, ℕ, ◌+◌, ◌*◌, leb, length}
 use Rattle.codec.specs.Bytes.{put}

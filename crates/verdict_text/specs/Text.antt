@@ -1,4 +1,4 @@
--- The text of program `verdicts` (document 01, "Store verdict"): what it prints for the text that it reads.
+-- The text of program `verdicts` (docs/FORMAT.md, "The program verdicts"): what it prints for the text that it reads.
 use Rattle.std.specs.Prelude.{Bool, cond, ◌||◌, List, [], ◌∷◌, ℕ, ◌*◌, eqb, leb, ltb, length}
 use Rattle.std.proofs.Math.Option.{Option, some, none}
 use Rattle.verdict.specs.Verdict.{verdictBytes}

@@ -1,4 +1,4 @@
-// Judges a store by the frames of its pairs (document 01, "Store verdict"). The text is verdict_text's, this reads and writes it.
+// Judges a store by the frames of its pairs (docs/FORMAT.md, "The program verdicts"). The text is verdict_text's, this reads and writes it.
 #![tactic(auto)]
 
 ghost use Rattle.std.specs.Prelude.{◌≤◌, length};

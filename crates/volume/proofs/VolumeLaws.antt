@@ -14,7 +14,7 @@ use Rattle.volume_base.proofs.BaseLaws.{length-base, base-encodes-back, base-acc
 use Rattle.volume_tail.specs.Tail.{rawTail, tail_bytes}
 use Rattle.volume_tail.specs.declared.RawTail.{RawTail}
 use Rattle.volume_tail.proofs.TailLaws.{length-tail}
-use Rattle.volume.specs.Volume.{record2, tailCheck, decodeVolume, storedTail, volumeBytes, Acceptable}
+use Rattle.volume.specs.Volume.{record2, tailCheck, decodeVolume, storedTail, volumeBytes, Acceptable, VolumesBack}
 use Rattle.volume.specs.declared.meta2.VolumeMeta2.{VolumeMeta2}
 use Rattle.volume.proofs.DecodeLaws.{volume-decoded, tail-decides}
 
@@ -134,3 +134,11 @@ module _ {v : VolumeMeta2} (ok : Acceptable v) where
       ∙ ap (tailCheck v.base) tail_written
       ∙ tail-passes
       ∙ ap (λ (w : VolumeMeta2). given w) record-read
+
+pub volumes_back : VolumesBack
+volumes_back =
+    record {
+      encoded = λ s v small decodes. volume-encodes-back s small decodes;
+      accepted = λ s v small decodes. volume-acceptable s small decodes;
+      decoded = λ v ok. volume-decodes-back ok;
+    }

@@ -1,7 +1,7 @@
--- The volume record of format 2, 64 bytes (document 01, "Volume record and pages", and its refusals of volume decode, table end and
--- file length): the checks in their order, and the bytes as they are written.
+-- The volume record of format 2, 64 bytes (docs/FORMAT.md, "The volume record", and "Refusals" of its decoding, the table's end and
+-- the file's length): the checks in their order, and the bytes as they are written.
 use Rattle.std.specs.Prelude.{◌≡◌, cond, not, List, ◌++◌, ℕ, ◌+◌, ◌*◌, ◌^◌, ◌≤◌, ◌<◌, leb, ltb, eqb, length, take}
-use Rattle.codec.specs.Bytes.{le32, le64, flag}
+use Rattle.codec.specs.Bytes.{AllBytes, le32, le64, flag}
 use Rattle.codec.specs.Outcome.{Outcome, given, refusal, and_then}
 use Rattle.region.specs.Error.{errorNumber}
 use Rattle.region.specs.Block.{entriesPerPage}
@@ -88,3 +88,9 @@ endOutcome (TableEnd.Refused error) = refusal (errorNumber error)
 -- 26 end above file.
 unfoldable pub fileCheck : VolumeMeta2 → ℕ → Outcome (Unit {0})
 fileCheck v len = and_then (table_end v) (λ end. cond (ltb len end) (refusal 26) (given tt))
+
+-- A record that was decoded is encoded to the same bytes and is acceptable; an acceptable one is decoded from its bytes.
+pub record VolumesBack : Type 0 where
+  pub encoded : (s : List ℕ) (v : VolumeMeta2) → AllBytes s → decodeVolume s ≡ given v → volumeBytes v ≡ s
+  pub accepted : (s : List ℕ) (v : VolumeMeta2) → AllBytes s → decodeVolume s ≡ given v → Acceptable v
+  pub decoded : (v : VolumeMeta2) → Acceptable v → decodeVolume (volumeBytes v) ≡ given v

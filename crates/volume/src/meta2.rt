@@ -12,7 +12,7 @@
 ghost use Rattle.std.specs.Prelude.{◌≡◌, ◌≤◌};
 ghost use Rattle.codec.specs.Bytes.{putWhole};
 ghost use Rattle.region.specs.Error.{checkOutcome, encodedOutcome, fitted};
-ghost use Rattle.volume.specs.Volume.{tailCheck, decodeVolume, volumeOutcome, volumeBytes, table_end, endOutcome, fileCheck};
+ghost use Rattle.volume.specs.Volume.{tailCheck, decodeVolume, volumeOutcome, volumeBytes, table_end, endOutcome, fileCheck, VolumesBack};
 
 use codec::bytes::flag;
 use codec::codec::{Read, Reader, Written};
@@ -183,3 +183,9 @@ fn with_base(base: VolumeMeta, tail: RawTail) -> VolumeMeta2Read
         flags: tail.flags,
     })
 }
+
+// Does nothing: its contract is the round trip of volume records.
+#[tactic(auto, using(crate::proofs::VolumeLaws::volumes_back))]
+pub fn round_trip()
+    ensures { VolumesBack }
+{}

@@ -1,4 +1,4 @@
--- The 48 bytes of the volume record that both formats have (document 01, "Volume record and pages", and its refusals of the 48-byte
+-- The 48 bytes of the volume record that both formats have (docs/FORMAT.md, "The volume record", and "Refusals" of its
 -- base): the layout by offsets, the checks in their order, and the bytes as they are written.
 use Rattle.std.specs.Prelude.{◌≡◌, Bool, cond, not, List, ◌++◌, ℕ, ◌%◌, ◌^◌, ◌≤◌, ◌<◌, leb, ltb, eqb, length, get_or, replicate}
 use Rattle.codec.specs.Bytes.{le16, le32, le64, bytes, bytes16, bytes32, bytes64}

@@ -1,4 +1,4 @@
--- What stands behind the base of a volume record of format 2, 16 bytes (document 01, "Volume record and pages"): by offsets, and as it is
+-- What stands behind the base of a volume record of format 2, 16 bytes (docs/FORMAT.md, "The volume record"): by offsets, and as it is
 -- written.
 use Rattle.std.specs.Prelude.{cond, List, ◌++◌, ℕ, leb, length, get_or}
 use Rattle.codec.specs.Bytes.{le16, le32, bytes, bytes16, bytes32}

@@ -1,4 +1,4 @@
--- The winner's payload (document 01, "Pair winner and payload"): a part of slot A's or slot B's bytes.
+-- The winner's payload (docs/FORMAT.md, "The winner's payload"): a part of slot A's or slot B's bytes.
 use Rattle.std.specs.Prelude.{List, ℕ, length}
 use Rattle.std.specs.Borrow.{Bor}
 use Rattle.codec.specs.Place.{Part}

@@ -56,7 +56,7 @@ pub fn read_pair(a: &[u8], expect_a: Expect, b: &[u8], expect_b: Expect) -> Pair
 
 // A pair's report in six numbers.
 #[tactic(auto, unfolding(pair::specs::Numbers::reportNumbers))]
-fn report_numbers(report: PairReport) -> [u8; 6]
+pub fn report_numbers(report: PairReport) -> [u8; 6]
     ensures { result ≡ reportNumbers report }
 {
     let a = report.a;

@@ -1,11 +1,8 @@
--- How long the winner's part is: as long as its place says.
+-- A payload's part is as long as its place says.
 use Rattle.std.proofs.Common.{◌≡◌, refl, ap, ◌∙◌, Bool, true, false, cond, List, ℕ, ◌+◌, arith, ltb-false, Bor, ltb, length, take, drop, length-drop, length-take-le}
 use Rattle.slot.specs.Read.{payloadStart, payloadLength}
-use Rattle.slot.specs.declared.slot.SlotIndex.{SlotIndex}
 use Rattle.slot.specs.declared.slot.SlotInfo.{SlotInfo}
-use Rattle.pair.specs.declared.pair.WinnerInfo.{WinnerInfo}
-use Rattle.winner.specs.Winner.{WinnerPart}
-use Rattle.host_slots.specs.Winners.{winnerLength}
+use Rattle.winner.specs.Winner.{PayloadPart}
 
 payload-size : (i : SlotInfo) (s : List ℕ) → length (take (payloadLength i (length s)) (drop (payloadStart i (length s)) s)) ≡ payloadLength i (length s)
 unfolding payloadStart payloadLength
@@ -18,7 +15,5 @@ payload-size i s = go (ltb (length s) (i.payload_start + i.payload_len)) refl
         let within = ltb-false (length s) (i.payload_start + i.payload_len) test in
         length-take-le i.payload_len (drop i.payload_start s) (simp length-drop (omega arith))
 
-pub part-size : (info : WinnerInfo) (a b r : Bor (List ℕ)) → WinnerPart info a b r → length r.now ≡ winnerLength (length a.now) (length b.now) info
-part-size WinnerInfo.Nothing a b r part = ap length part.bytes
-part-size (WinnerInfo.Won SlotIndex.A i) a b r part = ap length part.bytes ∙ payload-size i a.now
-part-size (WinnerInfo.Won SlotIndex.B i) a b r part = ap length part.bytes ∙ payload-size i b.now
+pub part-size : (i : SlotInfo) (s r : Bor (List ℕ)) → PayloadPart i s r → length r.now ≡ payloadLength i (length s.now)
+part-size i s r part = ap length part.bytes ∙ payload-size i s.now
