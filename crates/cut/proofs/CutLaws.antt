@@ -3,11 +3,11 @@
 use Rattle.std.proofs.Common.{◌≡◌, refl, sym, ap, ◌∙◌, ◌⊎◌, inl, inr, Bool, true, false, cond, List, ◌++◌, ℕ, ◌+◌, ◌≤◌, arith, eqb-true, ltb, eqb, length, take, drop, length-append, length-take, length-drop, take-take, length-take-le}
 use Rattle.std.proofs.Math.Seq.{take-append-le}
 use Rattle.codec.specs.Bytes.{AllBytes, le16, le32, same}
-use Rattle.codec.specs.Crc32c.{crc32c}
 use Rattle.codec.proofs.CursorLaws.{take-bytes, drop-bytes, append-bytes}
 use Rattle.codec.proofs.RunLaws.{same_true}
 use Rattle.slot.specs.Read.{magic, headerSum}
-use Rattle.cut.specs.Cut.{cut, CutPoint, standsWhole, headerPasses, payloadIn, Accident}
+use Rattle.cut.specs.Cut.{cut, CutPoint, standsWhole, headerPasses, Accident}
+use Rattle.cut.specs.Laws.{FailedSum, FailedPayload}
 use Rattle.cut.proofs.StatusLaws.{false-true, same-is}
 
 pub not_same : (s t : List ℕ) → (s ≡ t → ⊥) → same s t ≡ false
@@ -91,14 +91,12 @@ passed-sum s = go (ltb (le16 s 12) 128) (ltb (length s) (le16 s 12))
     go false false is = eqb-true _ _ is
 
 -- so that there is no accident where the sum of a header other than the new one is not the one that it stores.
-pub failed-sum : (s old new payload : List ℕ) → (take 128 s ≡ take 128 new → ⊥) → (headerSum s (le16 s 12) ≡ le32 s 8 → ⊥)
-    → Accident s old new payload → ⊥
+pub failed-sum : FailedSum
 failed-sum s old new payload not_new not-stored (Accident.header passes not-old other) = not-stored (passed-sum s passes)
 failed-sum s old new payload not_new not-stored (Accident.payload same-header other passes) = not_new same-header
 
--- Under the new header there is none where the payload's checksum is not the stored one.
-pub failed-payload : (s old new payload : List ℕ) → take 128 s ≡ take 128 new → (crc32c (payloadIn s payload) ≡ le32 s 28 → ⊥)
-    → Accident s old new payload → ⊥
+-- Nor is there one where the payload's checksum is not the stored one under the new header.
+pub failed-payload : FailedPayload
 failed-payload s old new payload same-header not-stored (Accident.header passes not-old not_new) = not_new same-header
 failed-payload s old new payload same-header not-stored (Accident.payload new-header other passes) = not-stored passes
 

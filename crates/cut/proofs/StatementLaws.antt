@@ -1,7 +1,6 @@
--- What the proof of the cut theorem leaves open in its statement is held here: it goes through whatever mark the store is said to have or
--- the judge is handed, whatever the decoders are said to accept, and where the frames or the read-back are said to hold less.
-use Rattle.std.proofs.Common.{◌≡◌, refl, sym, ap, ap₂, ◌∙◌, Bool, true, false, cond, List, ◌∷◌, ◌++◌, ℕ, ◌+◌, eqb, length, get_or, take, drop, Bor}
-use Rattle.codec.specs.Outcome.{Outcome, given, refusal, isGiven}
+-- The laws of specs/Laws.antt on the marks, the frames and the read-back.
+use Rattle.std.proofs.Common.{◌≡◌, refl, sym, ap, ap₂, ◌∙◌, Bool, true, false, cond, List, ◌++◌, ℕ, ◌+◌, ne_eqb, eqb, length, take, drop, Bor}
+use Rattle.codec.specs.Outcome.{Outcome, given, refusal}
 use Rattle.codec.specs.Place.{Part}
 use Rattle.slot.specs.Status.{code, validInfo}
 use Rattle.slot.specs.Read.{payload, payloadStart, payloadLength, headerFacts}
@@ -12,29 +11,19 @@ use Rattle.slot.specs.declared.slot.HeaderFacts.{HeaderFacts}
 use Rattle.pair.specs.Pair.{winnerInfo}
 use Rattle.pair.specs.declared.pair.WinnerInfo.{WinnerInfo}
 use Rattle.winner.specs.Winner.{WinnerPart}
-use Rattle.frame.specs.Frame.{failedPart, partBy, part_of, partBytes}
+use Rattle.frame.specs.Frame.{partBy, part_of, partBytes}
 use Rattle.frame.specs.declared.frame.SlotPart.{SlotPart}
 use Rattle.volume.specs.Volume.{decodeVolume}
 use Rattle.volume.specs.declared.meta2.VolumeMeta2.{VolumeMeta2}
 use Rattle.volume.proofs.DecodeLaws.{volume-decoded}
-use Rattle.page.specs.Read.{decodePage}
-use Rattle.cut.specs.Store.{Volume, Page, accepts, markBy, cleanMark, Slot, Pair, slot_at, status, report, filled, slotPart, pairPart, frames, storeMark, SoundPair}
-use Rattle.cut.specs.Cut.{Write, whole, is_empty, handed, PayloadIs}
+use Rattle.cut.specs.Store.{markBy, cleanMark, Slot, Pair, slot_at, status, report, filled, slotPart, pairPart, frames}
+use Rattle.cut.specs.Cut.{is_empty, handed, PayloadIs}
+use Rattle.cut.specs.Laws.{UnmarkedRecord, UnmarkedStore, PageHanded, TornHanded, WholeHanded, NothingGiven, ChecksumGiven, zeroPart, PairFrame, OnePayload}
 use Rattle.cut.proofs.PairLaws.{last-is}
-
--- ---- the decoders
-
--- What its decoder refuses is not accepted.
-pub volume-refused : (r : List ℕ) {number : ℕ} → decodeVolume r ≡ refusal number → accepts Volume r ≡ false
-volume-refused r refused = ap isGiven refused
-
-pub page-refused : (index most : ℕ) (r : List ℕ) {number : ℕ} → decodePage r index most ≡ refusal number → accepts (Page index most) r ≡ false
-page-refused index most r refused = ap isGiven refused
 
 -- ---- the store's mark
 
--- A record with 0 in its byte 54 has none,
-unmarked-record : (r : List ℕ) → get_or r 54 0 ≡ 0 → cleanMark r ≡ false
+pub unmarked-record : UnmarkedRecord
 unmarked-record r zero = go (decodeVolume r) refl
   where
     go : (o : Outcome VolumeMeta2) → decodeVolume r ≡ o → markBy o ≡ false
@@ -42,53 +31,38 @@ unmarked-record r zero = go (decodeVolume r) refl
         ap (λ (v : VolumeMeta2). v.clean_close) (volume-decoded r decoded).is ∙ ap (λ (mark : ℕ). eqb mark 1) zero
     go (refusal number) decoded = refl
 
--- and neither has a store with such a record in the newer slot of pair 0.
-pub unmarked-store : (p : Pair) (ps : List Pair) (sound : SoundPair p) → get_or (payload sound.info (slot_at sound.newer p).bytes) 54 0 ≡ 0
-    → storeMark (p ∷ ps) ≡ false
+pub unmarked-store : UnmarkedStore
 unmarked-store p ps sound zero = ap cleanMark (last-is p sound) ∙ unmarked-record (payload sound.info (slot_at sound.newer p).bytes) zero
 
 -- ---- the mark that the judge is handed
 
-module _ (w : Write) where
-  -- After a write to a page it is false,
-  pub page-handed : is_empty w.before ≡ false → handed w ≡ false
-  unfolding handed
-  page-handed page = simp page
+pub page-handed : PageHanded
+unfolding handed
+page-handed w p ps before = rw before refl
 
-  -- and where the new record does not stand whole,
-  pub torn-handed : whole w ≡ false → handed w ≡ false
-  unfolding handed
-  torn-handed torn = if-first (is_empty w.before) (simp torn)
-    where
-      if-first : (first : Bool) {mark : Bool} → mark ≡ false → cond first mark false ≡ false
-      if-first true none = none
-      if-first false none = refl
+pub torn-handed : TornHanded
+unfolding handed
+torn-handed w torn = if-first (is_empty w.before) (simp torn)
+  where
+    if-first : (first : Bool) {mark : Bool} → mark ≡ false → cond first mark false ≡ false
+    if-first true none = none
+    if-first false none = refl
 
-  -- but the mark of pair 0's new record where that stands whole.
-  pub whole-handed : is_empty w.before ≡ true → whole w ≡ true → handed w ≡ cleanMark w.payload
-  unfolding handed
-  whole-handed first stands = simp (first, stands)
+pub whole-handed : WholeHanded
+unfolding handed
+whole-handed w before stands = rw (before, stands) refl
 
 -- ---- the frames
 
--- Where nothing is given, a frame holds what the host left in it.
-pub nothing-given : (rest : SlotPart) (c : ℕ) → eqb c 12 ≡ false
-    → filled rest (failedPart c HeaderFacts.Nothing)
-    ≡ record {
-      code = c;
-      facts = 0;
-      generation = rest.generation;
-      meta_seq = rest.meta_seq;
-      header_crc32c = rest.header_crc32c;
-      prev_header_crc32c = rest.prev_header_crc32c;
-    }
+pub nothing-given : NothingGiven
 unfolding filled
-nothing-given rest c not_valid = simp not_valid
+nothing-given rest c not_valid = simp (ne_eqb _ _ not_valid)
 
--- With zeros in those fields a part is what `SlotPart::new` fills,
-abbrev zeroPart : SlotPart
-zeroPart = record { code = 0; facts = 0; generation = 0; meta_seq = 0; header_crc32c = 0; prev_header_crc32c = 0 }
+pub checksum-given : ChecksumGiven
+unfolding filled
+checksum-given rest c own not_valid = simp (ne_eqb _ _ not_valid)
 
+-- With zeros in the other fields a part is what `SlotPart::new` gives.
 filled-zeros : (st : SlotStatus) (f : HeaderFacts) → filled zeroPart (part_of st f) ≡ part_of st f
 unfolding filled
 filled-zeros st f = by-info (code st) f (validInfo st)
@@ -113,11 +87,7 @@ slot-zeros s zeros =
     ap (λ (rest : SlotPart). filled rest (part_of (status s) (headerFacts s.bytes s.expect))) zeros
     ∙ filled-zeros (status s) (headerFacts s.bytes s.expect)
 
--- and a pair's frame is the bytes of A's part and then of B's.
-pub pair-frame : (p : Pair) (ps : List Pair) → p.a.rest ≡ zeroPart → p.b.rest ≡ zeroPart
-    → frames (p ∷ ps)
-    ≡ partBytes (part_of (status p.a) (headerFacts p.a.bytes p.a.expect))
-    ++ (partBytes (part_of (status p.b) (headerFacts p.b.bytes p.b.expect)) ++ frames ps)
+pub pair-frame : PairFrame
 unfolding pairPart
 pair-frame p ps a-zeros b-zeros =
     ap₂ (λ (a b : SlotPart). partBytes a ++ (partBytes b ++ frames ps)) (slot-zeros p.a a-zeros) (slot-zeros p.b b-zeros)
@@ -150,5 +120,8 @@ module _ (p : Pair) {r s : List ℕ} (first : PayloadIs p r) (second : PayloadIs
       let len = payloadLength i (length p.b.bytes) in
       by_part (lentPart 1 start len p.b.bytes) (rw is (lent-part 1 start len p.b.bytes))
 
-  pub one-payload : r ≡ s
-  one-payload = by-info (winnerInfo (report p)) refl
+  same-record : r ≡ s
+  same-record = by-info (winnerInfo (report p)) refl
+
+pub one-payload : OnePayload
+one-payload p r s first second = same-record p first second

@@ -20,6 +20,7 @@ use Rattle.encode.proofs.RoundTrip.{written}
 use Rattle.pair.specs.declared.pair.WinnerInfo.{WinnerInfo}
 use Rattle.cut.specs.Store.{Pair, accepts, slot_at, status, lastRecord, SoundSlot, Beside, SoundPair}
 use Rattle.cut.specs.Cut.{Write, size, expect, old, new, CorrectWrite}
+use Rattle.cut.specs.Laws.{Encoded}
 use Rattle.cut.proofs.ByteLaws.{slot-bytes}
 use Rattle.cut.proofs.StatusLaws.{blank-is, valid-is}
 use Rattle.cut.proofs.PairLaws.{last-is, sound-won}
@@ -167,10 +168,9 @@ module _ (w : Write) (sound : SoundPair w.pair) (correct : CorrectWrite w) where
       let some : (f.generation ≡ 0 → ⊥) = λ none. omega (arith, correct.generation) in
       simp (le-ltb _ _ log2-low, le-ltb _ _ log2-high, eq-eqb _ _ correct.room, le-ltb _ _ within, ne_eqb _ _ some, eq-eqb _ _ correct.format)
 
-  -- `encode` refuses nothing.
-  pub encoded : encode w.fields w.payload w.buffer ≡ given (headerCrc w.fields w.payload)
+  not_refused : encode w.fields w.payload w.buffer ≡ given (headerCrc w.fields w.payload)
   unfolding encode
-  encoded = simp none-refused
+  not_refused = simp none-refused
 
   pub new_is : new w ≡ slotBytes w.fields w.payload
   new_is = written f w.payload w.buffer none-refused fields_fit true number_ok
@@ -204,3 +204,6 @@ module _ (w : Write) (sound : SoundPair w.pair) (correct : CorrectWrite w) where
   new-magic =
       ap (take 8) new-parts
       ∙ magic-read (headerCrc f w.payload) f (length w.payload) (crc32c w.payload) (drop 128 (new w)) fields_fit.volume
+
+pub encoded : Encoded
+encoded = not_refused

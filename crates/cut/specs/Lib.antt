@@ -1,2 +1,3 @@
 pub mod Store
 pub mod Cut
+pub mod Laws

@@ -1,9 +1,77 @@
-// The cut theorem. What it says stands in specs/Cut.antt, what is assumed of the store in specs/Store.antt.
+// The cut theorem. What it says stands in specs/Cut.antt, what is assumed of the store in specs/Store.antt; specs/Laws.antt holds their words
+// to what they mean. A function without code does nothing: its contract is the theorem, or the laws.
 #![tactic(auto)]
 
-ghost use Rattle.cut.specs.Cut.{CutTheorem};
+ghost use Rattle.std.specs.Prelude.{◌≡◌, List, ℕ};
+ghost use Rattle.slot.specs.Status.{statusValues};
+ghost use Rattle.pair.specs.Numbers.{reportNumbers};
+ghost use Rattle.winner.specs.Winner.{readPair};
+ghost use Rattle.cut.specs.Store.{Pair};
+ghost use Rattle.cut.specs.Cut.{CutTheorem, PayloadIs};
+ghost use Rattle.cut.specs.Laws.{VolumeRefused, PageRefused, Encoded, UnmarkedRecord, UnmarkedStore, PageHanded, TornHanded, WholeHanded, FailedSum, FailedPayload, NothingGiven, ChecksumGiven, PairFrame, OnePayload, HasSlots};
 
-// Does nothing: its contract is the theorem.
+use slot::slot::Expect;
+
 pub fn cut_theorem()
     ensures { CutTheorem }
 {}
+
+// What a decoder refuses is no record of a sound store, and none that is read back.
+pub fn refused_records()
+    ensures volume { VolumeRefused }
+    ensures page { PageRefused }
+{}
+
+// A correct write is one that `encode` writes.
+pub fn correct_write()
+    ensures { Encoded }
+{}
+
+// When a record and a store have no clean mark.
+pub fn clean_mark()
+    ensures unmarked_record { UnmarkedRecord }
+    ensures unmarked_store { UnmarkedStore }
+{}
+
+// Which mark the judge is handed.
+pub fn handed_mark()
+    ensures page { PageHanded }
+    ensures torn { TornHanded }
+    ensures whole { WholeHanded }
+{}
+
+// What is no accident.
+pub fn no_accident()
+    ensures header { FailedSum }
+    ensures payload { FailedPayload }
+{}
+
+// The frames are the bytes that the library fills, with what the host left in the other fields.
+pub fn frames()
+    ensures kept { NothingGiven }
+    ensures kept_beside_checksum { ChecksumGiven }
+    ensures filled { PairFrame }
+{}
+
+pub fn one_record()
+    ensures { OnePayload }
+{}
+
+// What the theorem calls read back is what `winner_payload` hands out: its part is the record of every pair with these slots.
+pub fn read_back<'a>(
+    a: &'a [u8],
+    expect_a: Expect,
+    b: &'a [u8],
+    expect_b: Expect,
+    values_a: &mut [u64; 9],
+    values_b: &mut [u64; 9],
+    report: &mut [u8; 6],
+) -> &'a [u8]
+    ensures back { (p : Pair) → HasSlots p a.now expect_a b.now expect_b → PayloadIs p result.now }
+    ensures only { (p : Pair) → HasSlots p a.now expect_a b.now expect_b → (r : List ℕ) → PayloadIs p r → result.now ≡ r }
+    ensures values_a_after { values_a.new ≡ statusValues (readPair a.now expect_a b.now expect_b).a }
+    ensures values_b_after { values_b.new ≡ statusValues (readPair a.now expect_a b.now expect_b).b }
+    ensures report_after { report.new ≡ reportNumbers (readPair a.now expect_a b.now expect_b) }
+{
+    winner::winner_payload(a, expect_a, b, expect_b, values_a, values_b, report)
+}

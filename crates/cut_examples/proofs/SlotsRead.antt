@@ -21,26 +21,11 @@ use Rattle.judge.specs.Row.{partRead}
 use Rattle.judge.specs.declared.SlotRead.{SlotRead}
 use Rattle.judge.specs.declared.PairRead.{PairRead}
 use Rattle.verdict.specs.declared.verdict.Judged.{Judged}
-use Rattle.cut.specs.Store.{Decoder, Slot, Pair, accepts, filled, slotPart, pairPart, frames, slotRead}
-use Rattle.cut.specs.Cut.{Write, after, handed, PayloadIs}
+use Rattle.cut.specs.Store.{Decoder, Slot, Pair, slot_at, accepts, filled, slotPart, pairPart, frames, slotRead}
+use Rattle.cut.specs.Cut.{Write, left, withBytes, after, handed, PayloadIs}
 use Rattle.cut.proofs.PairLaws.{won-payload}
-use Rattle.cut_store.proofs.CutExamples.{rest}
-
--- ---- what is computed
-
--- Every pair reads back a record, and its decoder accepts it.
-pub data AllRead : List Pair → List (List ℕ) → Type 0 where
-  none : AllRead [] []
-  more : {p : Pair} {ps : List Pair} {r : List ℕ} {rs : List (List ℕ)}
-      → PayloadIs p r → accepts p.decoder r ≡ true → AllRead ps rs → AllRead (p ∷ ps) (r ∷ rs)
-
--- After the cut of w the judge answers this heal and this clean mark, writable and not refused, and writes these verdicts; and these
--- records are read back.
-pub record Computed (w : Write) (heal : Heal) (clean : Bool) (verdict : List ℕ) (records : List (List ℕ)) : Type 0 where
-  pub answer : judged (frames (after w)) (flag (handed w)) 12
-      ≡ Judged.Done (record { heal = heal; writable = true; clean = clean; refused = false })
-  pub written : judgedBytes (frames (after w)) (flag (handed w)) (replicate 12 0) ≡ verdict
-  pub back : AllRead (after w) records
+use Rattle.cut_store.specs.Stores.{rest}
+use Rattle.cut_examples.specs.Computed.{AllRead, Computed}
 
 -- ---- slots as they are read
 
@@ -57,7 +42,7 @@ readOnce s e =
     cond (not (lengthOk (length s) e.log2_slot_size)) (record { status = SlotStatus.BadLength; facts = HeaderFacts.Nothing })
     (cond (allZero (take 128 s)) (record { status = SlotStatus.Blank; facts = HeaderFacts.Nothing }) (read_by s (parseHeader s e)))
 
-read-once : (s : List ℕ) (e : Expect) → slotRead (slotWith s e) ≡ readOnce s e
+pub read-once : (s : List ℕ) (e : Expect) → slotRead (slotWith s e) ≡ readOnce s e
 unfolding validate headerFacts
 read-once s e = go (lengthOk (length s) e.log2_slot_size) (allZero (take 128 s))
   where
@@ -130,10 +115,11 @@ row_back : {ps : List Pair} {xs : List PairRead} {rs : List (List ℕ)} → RowR
 row_back none = AllRead.none
 row_back (more pair row) = AllRead.more pair.back pair.accepted (row_back row)
 
-pub computed-row : (w : Write) {xs : List PairRead} {rs : List (List ℕ)} {mark : Bool} {heal : Heal} {clean : Bool} {verdict : List ℕ}
+pub computed-row : (w : Write) {slot : SlotRead} {xs : List PairRead} {rs : List (List ℕ)} {mark : Bool} {heal : Heal} {clean : Bool} {verdict : List ℕ}
+    → slotRead (withBytes (left w) (slot_at w.index w.pair)) ≡ slot
     → RowRecords (after w) xs rs → handed w ≡ mark
     → judged (framesOf (filledRow xs)) (flag mark) 12 ≡ Judged.Done (record { heal = heal; writable = true; clean = clean; refused = false })
     → judgedBytes (framesOf (filledRow xs)) (flag mark) (replicate 12 0) ≡ verdict
-    → Computed w heal clean verdict rs
-computed-row w row mark-is answer written =
-    record { answer = rw (row-frames row, mark-is) answer; written = rw (row-frames row, mark-is) written; back = row_back row }
+    → Computed w slot heal clean verdict rs
+computed-row w read row mark-is answer written =
+    record { read = read; answer = rw (row-frames row, mark-is) answer; written = rw (row-frames row, mark-is) written; back = row_back row }

@@ -1,7 +1,4 @@
--- The cut theorem is not empty: a store of three pairs, the volume record and two pages, is sound, writes to both slots of a page, to a
--- Blank one and to the volume record are correct, and cuts after no byte, in the header, in the payload and after the last byte are no
--- accidents. The slots are what `encode` writes; the checksums are computed. What is judged and read back after these cuts is computed
--- in crates/cut_examples.
+-- What specs/Writes.antt says of the stores and the writes. The slots are what `encode` writes; the checksums are computed.
 use Rattle.std.proofs.Common.{◌≡◌, refl, sym, ap, subst, ◌∙◌, inl, inr, Bool, true, false, cond, not, List, [], ◌∷◌, ◌++◌, ℕ, ◌+◌, ◌-◌, ◌*◌, ◌^◌, ◌≤◌, ◌<◌, max, arith, leb-true, eqb-true, eq-eqb, leb, eqb, lit≤, lit<, length, get_or, take, replicate}
 use borrow.Author.Tests.{not-true}
 use Rattle.codec.specs.Bytes.{AllBytes, le, le16, le32, bytes, same}
@@ -17,13 +14,11 @@ use Rattle.slot.specs.declared.slot.SlotFields.{SlotFields}
 use Rattle.slot.specs.declared.slot.SlotInfo.{SlotInfo}
 use Rattle.slot.specs.declared.slot.SlotStatus.{SlotStatus}
 use Rattle.slot.specs.declared.slot.Expect.{Expect}
-use Rattle.encode.proofs.EncodeLaws.{Fits, expectOf, infoOf}
+use Rattle.encode.proofs.EncodeLaws.{Fits, infoOf}
 use Rattle.encode.proofs.RoundTrip.{written, encode-valid, encode-payload}
 use Rattle.pair.specs.Pair.{winnerInfo}
 use Rattle.pair.specs.declared.pair.WinnerInfo.{WinnerInfo}
-use Rattle.frame.specs.declared.frame.SlotPart.{SlotPart}
 use Rattle.candidate.specs.Numbers.{slots, highest}
-use Rattle.judge_frames.specs.Frames.{verdictWidth}
 use Rattle.region.specs.Block.{clamp, blockSize, entriesPerPage}
 use Rattle.volume_base.specs.Base.{baseCheck, decodeBase, baseBytes}
 use Rattle.volume_tail.specs.Tail.{tail_bytes}
@@ -31,8 +26,10 @@ use Rattle.volume.specs.Volume.{tailCheck, decodeVolume, volumeBytes}
 use Rattle.page.specs.Read.{decodePage}
 use Rattle.page_write.specs.Write.{headerBytes as pageHeaderBytes}
 use Rattle.page_write.proofs.PageLaws.{headerRow as pageHeaderRow}
-use Rattle.cut.specs.Store.{Every, Decoder, Volume, Page, accepts, cleanMark, Slot, Pair, slot_at, status, report, parts, storeMark, Typed, SoundSlot, Beside, SoundPair, Sound}
-use Rattle.cut.specs.Cut.{Write, store, size, old, new, cut, CutPoint, CorrectWrite, standsWhole, whole, payloadIn, Accident, handed, Survives}
+use Rattle.cut.specs.Store.{Every, Decoder, Volume, Page, accepts, cleanMark, Pair, slot_at, status, report, parts, storeMark, Typed, SoundSlot, Beside, SoundPair, Sound}
+use Rattle.cut.specs.Cut.{Write, store, size, old, new, cut, CutPoint, CorrectWrite, standsWhole, whole, payloadIn, Accident, handed}
+use Rattle.cut_store.specs.Stores.{volumeRecord, pageRecord, rest, fields, readWith, writtenSlot, blankSlot, volumeFields, volumePair, olderFields, newerFields, firstPage, secondFields, secondPage, newFields, laterPage, firstStore, laterStore}
+use Rattle.cut_store.specs.Writes.{IsMet, StoresSound, MetIsEnough, writeTo, pageWrite, markedFields, volumeWrite, nextFields, secondWrite, laterFields, laterWrite, PageMet, VolumeMet, SecondMet, LaterMet, StandsWhole, MarkHanded}
 use Rattle.cut.proofs.ByteLaws.{slot-bytes}
 use Rattle.cut.proofs.StatusLaws.{false-true}
 use Rattle.cut.proofs.PairLaws.{valid-number, blank-number, sound-won}
@@ -41,35 +38,6 @@ use Rattle.cut.proofs.StatementLaws.{unmarked-store, torn-handed, whole-handed}
 use Rattle.cut.proofs.Theorem.{cut-theorem}
 
 -- ---- slots of 512 bytes
-
--- What a host leaves in the fields of a frame that are not given.
-abbrev pub rest : SlotPart
-rest = record { code = 0; facts = 0; generation = 5; meta_seq = 6; header_crc32c = 7; prev_header_crc32c = 8 }
-
-abbrev fields : ℕ → SlotIndex → ℕ → ℕ → ℕ → SlotFields
-fields object index generation prev number =
-    record {
-      volume_uuid = replicate 16 7;
-      object_id = object;
-      generation = generation;
-      owner_generation = 1;
-      slot_offset = 1024 * object + 512 * indexNumber index;
-      slot_index = index;
-      log2_slot_size = 9;
-      prev_header_crc32c = prev;
-      format_major = 2;
-      meta_seq = number;
-      compat_flags = 0;
-    }
-
--- A slot as `encode` writes it.
-abbrev writtenSlot : SlotFields → List ℕ → Slot
-writtenSlot f payload = record { bytes = encodedBytes f payload (replicate 512 0); expect = expectOf f true; rest = rest }
-
--- A Blank slot: behind its first 128 bytes it holds anything.
-abbrev blankSlot : ℕ → SlotIndex → Slot
-blankSlot object index =
-    record { bytes = replicate 128 0 ++ replicate 384 9; expect = expectOf (fields object index 0 0 0) true; rest = rest }
 
 index-offset : (object : ℕ) (index : SlotIndex) → object ≤ 2 → 1024 * object + 512 * indexNumber index < 2 ^ 64
 index-offset object SlotIndex.A small = omega arith
@@ -86,7 +54,7 @@ module _ (object : ℕ) (index : SlotIndex) (generation prev number : ℕ) (obje
   abbrev f : SlotFields
   f = fields object index generation prev number
 
-  typed-with : (bytes : List ℕ) → AllBytes bytes → Typed (record { bytes = bytes; expect = expectOf f true; rest = rest })
+  typed-with : (bytes : List ℕ) → AllBytes bytes → Typed (record { bytes = bytes; expect = readWith f; rest = rest })
   typed-with bytes all =
       record {
         bytes = all;
@@ -150,31 +118,6 @@ blank-status object index = refl
 
 -- ---- records
 
--- The volume record of a store with two pages, with a clean mark.
-abbrev pub volumeRecord : Bool → List ℕ
-volumeRecord mark =
-    volumeBytes
-    (record {
-      base =
-          record {
-            log2_block_size = 12;
-            log2_table_slot_size = 12;
-            device_index = 0;
-            owner_generation = 1;
-            table_offset = 8192;
-            created_unix_s = 0;
-            features = 0;
-          };
-      table_pages = 2;
-      entries_per_page = 41;
-      clean_close = mark;
-      flags = 0;
-    })
-
--- A page with no entry.
-abbrev pub pageRecord : ℕ → ℕ → List ℕ
-pageRecord index next = pageHeaderBytes (record { page_index = index; next_seq = next; count = 0 })
-
 volume-bytes : AllBytes (volumeRecord false) × AllBytes (volumeRecord true)
 unfolding volumeBytes baseBytes tail_bytes bytes
 volume-bytes = (bytes-tested (volumeRecord false) refl, bytes-tested (volumeRecord true) refl)
@@ -200,30 +143,6 @@ unfolding pageHeaderBytes bytes decodePage le
 page-accepted = (refl, refl, refl, refl, refl, refl)
 
 -- ---- the store
-
--- Pair 0: A of generation 1, B Blank.
-abbrev pub volumeFields : SlotFields
-volumeFields = fields 0 SlotIndex.A 1 0 1
-
-abbrev pub volumePair : Pair
-volumePair = record { a = writtenSlot volumeFields (volumeRecord false); b = blankSlot 0 SlotIndex.B; decoder = Volume }
-
--- Pair 1: A of generation 1, B of generation 2, which names A's checksum.
-abbrev olderFields : SlotFields
-olderFields = fields 1 SlotIndex.A 1 0 2
-
-abbrev pub newerFields : SlotFields
-newerFields = fields 1 SlotIndex.B 2 0x588e_9174 4
-
-abbrev pub firstPage : Pair
-firstPage = record { a = writtenSlot olderFields (pageRecord 0 1); b = writtenSlot newerFields (pageRecord 0 2); decoder = Page 0 41 }
-
--- Pair 2: A of generation 1, B Blank.
-abbrev pub secondFields : SlotFields
-secondFields = fields 2 SlotIndex.A 1 0 3
-
-abbrev pub secondPage : Pair
-secondPage = record { a = writtenSlot secondFields (pageRecord 1 0); b = blankSlot 2 SlotIndex.B; decoder = Page 1 41 }
 
 -- The checksums of the first page's headers and payloads.
 older-sums : (headerCrc olderFields (pageRecord 0 1) ≡ 0x588e_9174) × (crc32c (pageRecord 0 1) ≡ 0xb3b8_1b53)
@@ -323,10 +242,10 @@ highest-with p i j valid-a valid-b =
       blank-number secondPage SlotIndex.B (blank-status 2 SlotIndex.B),
     )
 
-sound : Sound (storeWith firstPage)
+sound : Sound firstStore
 sound = sound-with firstPage refl first-sound
 
-highest-number : highest (slots (parts (storeWith firstPage))) ≡ 4
+highest-number : highest (slots (parts firstStore)) ≡ 4
 highest-number =
     highest-with firstPage (infoOf olderFields (pageRecord 0 1)) (infoOf newerFields (pageRecord 0 2)) older-known.valid newer-known.valid
 
@@ -376,38 +295,29 @@ point k = go (eqb k 0) refl (leb 8 k) refl
     go false none true from test = inr (leb-true 8 k from, leb-true k 512 test)
     go false none false from test = false-true refl test
 
-survived : (w : Write) → Sound (store w) → storeMark (store w) ≡ false → CorrectWrite w → size w ≡ 512
-    → (before after : List ℕ) → old w ≡ before → new w ≡ after → cutTests w.k after before w.payload ≡ true
-    → (out : List ℕ) → length out ≡ length (store w) * verdictWidth → Survives w out
-survived w sound-store no-mark right small before after old-is New-is tests out room = go (pointTest w.k) refl tests
-  where
-    go : (in-range : Bool) → pointTest w.k ≡ in-range → cond in-range (safe (cut w.k after before) before after w.payload) false ≡ true
-        → Survives w out
-    go false is test = false-true refl test
-    go true is test =
-        cut-theorem w sound-store no-mark right (rw small (point w.k is))
-        (rw (New-is, old-is) (safe-none (cut w.k after before) before after w.payload test)) out room
+module _ (w : Write) (sound-store : Sound (store w)) (no-mark : storeMark (store w) ≡ false) (right : CorrectWrite w) (small : size w ≡ 512)
+    (before after : List ℕ) (old-is : old w ≡ before) (new-is : new w ≡ after) where
+  -- Of a correct write to a sound store with no mark the tests are all that is left.
+  met-by : cutTests w.k after before w.payload ≡ true → IsMet w
+  met-by tests = go (pointTest w.k) refl tests
+    where
+      go : (in-range : Bool) → pointTest w.k ≡ in-range → cond in-range (safe (cut w.k after before) before after w.payload) false ≡ true → IsMet w
+      go false is test = false-true refl test
+      go true is test =
+          record {
+            sound = sound-store;
+            unmarked = no-mark;
+            correct = right;
+            point = rw small (point w.k is);
+            none = rw (new-is, old-is) (safe-none (cut w.k after before) before after w.payload test);
+          }
 
 -- ---- writes
-
--- `encode` of the fields and the payload for the slot that the fields name, in a store of these pairs.
-abbrev writeTo : List Pair → Pair → List Pair → SlotFields → List ℕ → ℕ → Write
-writeTo before p behind f payload k =
-    record {
-      before = before;
-      pair = p;
-      behind = behind;
-      index = f.slot_index;
-      fields = f;
-      payload = payload;
-      buffer = replicate 512 0;
-      k = k;
-    }
 
 -- The identity is that of the slot, and the number is one above the highest n of the store.
 module _ (before : List Pair) (p : Pair) (behind : List Pair) {n : ℕ} (highest-is : highest (slots (parts (before ++ p ∷ behind))) ≡ n)
     (f : SlotFields) (fits : Fits f) (format : f.format_major ≡ 2) (log2 : f.log2_slot_size ≡ 9) (number : f.meta_seq ≡ n + 1)
-    (asked : expectOf f true ≡ (slot_at f.slot_index p).expect) where
+    (asked : readWith f ≡ (slot_at f.slot_index p).expect) where
   write-correct : (i : SlotInfo) → winnerInfo (report p) ≡ WinnerInfo.Won (other f.slot_index) i
       → f.generation ≡ i.generation + 1 → f.prev_header_crc32c ≡ i.header_crc32c
       → (payload : List ℕ) → AllBytes payload → accepts p.decoder payload ≡ true → 128 + length payload ≤ 512
@@ -449,13 +359,6 @@ summed-is object index generation prev number payload crc payloadCrc none sum pa
 
 -- ---- a write to a page
 
--- To slot A of the first page, generation 3, with B's checksum and number 5.
-abbrev newFields : SlotFields
-newFields = fields 1 SlotIndex.A 3 0xe83c_e718 5
-
-abbrev pub pageWrite : ℕ → Write
-pageWrite = writeTo (volumePair ∷ []) firstPage (secondPage ∷ []) newFields (pageRecord 0 0x304)
-
 page-correct : (k : ℕ) → CorrectWrite (pageWrite k)
 unfolding first-sound
 page-correct =
@@ -485,23 +388,21 @@ old-page = summed-is 1 SlotIndex.A 1 0 2 (pageRecord 0 1) 0x588e_9174 0xb3b8_1b5
 pub new-page : encodedBytes newFields (pageRecord 0 0x304) (replicate 512 0) ≡ newPage
 new-page = summed-is 1 SlotIndex.A 3 0xe83c_e718 5 (pageRecord 0 0x304) 0xd61e_00d0 0x9755_91c2 new-refusal new-sums.0 new-sums.1
 
-page-survived : (k : ℕ) → cutTests k newPage oldPage (pageRecord 0 0x304) ≡ true → Survives (pageWrite k) (replicate 12 0)
-page-survived k tests = survived (pageWrite k) sound (unmarked-with firstPage) (page-correct k) refl oldPage newPage old-page new-page tests (replicate 12 0) refl
+page-met : (k : ℕ) → cutTests k newPage oldPage (pageRecord 0 0x304) ≡ true → IsMet (pageWrite k)
+page-met k = met-by (pageWrite k) sound (unmarked-with firstPage) (page-correct k) refl oldPage newPage old-page new-page
 
--- After 8 bytes the header is the old one; after 11 and 64 it is neither and fails; after 127 it is the new one, since its last byte is
--- zero; after 133 the payload is neither and fails; after 134 it is the new one, since zeros follow.
-pub page-cuts : Every (λ (k : ℕ). Survives (pageWrite k) (replicate 12 0)) (0 ∷ 8 ∷ 11 ∷ 64 ∷ 127 ∷ 128 ∷ 133 ∷ 134 ∷ 512 ∷ [])
+pub page-cuts : PageMet
 unfolding cut headerSum headerBytes frontBytes identityBytes historyBytes pageHeaderBytes bytes le crc32c finalRemainder remainder digest reversed
 page-cuts =
-    Every.more (page-survived 0 refl)
-    (Every.more (page-survived 8 refl)
-    (Every.more (page-survived 11 refl)
-    (Every.more (page-survived 64 refl)
-    (Every.more (page-survived 127 refl)
-    (Every.more (page-survived 128 refl)
-    (Every.more (page-survived 133 refl) (Every.more (page-survived 134 refl) (Every.more (page-survived 512 refl) Every.none))))))))
+    Every.more (page-met 0 refl)
+    (Every.more (page-met 8 refl)
+    (Every.more (page-met 11 refl)
+    (Every.more (page-met 64 refl)
+    (Every.more (page-met 127 refl)
+    (Every.more (page-met 128 refl)
+    (Every.more (page-met 133 refl) (Every.more (page-met 134 refl) (Every.more (page-met 512 refl) Every.none))))))))
 
-pub page-whole : (whole (pageWrite 133) ≡ false) × (whole (pageWrite 134) ≡ true)
+pub page-whole : StandsWhole
 unfolding standsWhole cut headerBytes frontBytes identityBytes historyBytes pageHeaderBytes bytes
 page-whole = (whole-at 133, whole-at 134)
   where
@@ -509,13 +410,6 @@ page-whole = (whole-at 133, whole-at 134)
     whole-at k = rw (new-page, old-page)
 
 -- ---- a write to the volume record, with its clean mark set
-
--- To the Blank slot B, generation 2, with A's checksum and number 5.
-abbrev markedFields : SlotFields
-markedFields = fields 0 SlotIndex.B 2 0x1d15_7c74 5
-
-abbrev pub volumeWrite : ℕ → Write
-volumeWrite = writeTo [] volumePair (firstPage ∷ secondPage ∷ []) markedFields (volumeRecord true)
 
 volume-length : length (volumeRecord true) ≡ 64
 unfolding volumeBytes baseBytes tail_bytes bytes
@@ -551,19 +445,17 @@ markedBytes = summedSlot 0x880c_0bb0 0xa2bd_3d49 markedFields (volumeRecord true
 pub new-volume : encodedBytes markedFields (volumeRecord true) (replicate 512 0) ≡ markedBytes
 new-volume = summed-is 0 SlotIndex.B 2 0x1d15_7c74 5 (volumeRecord true) 0x880c_0bb0 0xa2bd_3d49 marked-refusal marked-sums.0 marked-sums.1
 
-volume-survived : (k : ℕ) → cutTests k markedBytes blankBytes (volumeRecord true) ≡ true → Survives (volumeWrite k) (replicate 12 0)
-volume-survived k tests =
-    survived (volumeWrite k) sound (unmarked-with firstPage) (volume-correct k) refl blankBytes markedBytes refl new-volume tests (replicate 12 0) refl
+volume-met : (k : ℕ) → cutTests k markedBytes blankBytes (volumeRecord true) ≡ true → IsMet (volumeWrite k)
+volume-met k = met-by (volumeWrite k) sound (unmarked-with firstPage) (volume-correct k) refl blankBytes markedBytes refl new-volume
 
--- After 8 and 11 bytes the header's length is still zero; after 128 the payload is what stood there before.
-pub volume-cuts : Every (λ (k : ℕ). Survives (volumeWrite k) (replicate 12 0)) (0 ∷ 8 ∷ 11 ∷ 64 ∷ 128 ∷ 191 ∷ 192 ∷ [])
+pub volume-cuts : VolumeMet
 unfolding cut headerSum headerBytes frontBytes identityBytes historyBytes volumeBytes baseBytes tail_bytes bytes le crc32c finalRemainder remainder digest reversed
 volume-cuts =
-    Every.more (volume-survived 0 refl)
-    (Every.more (volume-survived 8 refl)
-    (Every.more (volume-survived 11 refl)
-    (Every.more (volume-survived 64 refl)
-    (Every.more (volume-survived 128 refl) (Every.more (volume-survived 191 refl) (Every.more (volume-survived 192 refl) Every.none))))))
+    Every.more (volume-met 0 refl)
+    (Every.more (volume-met 8 refl)
+    (Every.more (volume-met 11 refl)
+    (Every.more (volume-met 64 refl)
+    (Every.more (volume-met 128 refl) (Every.more (volume-met 191 refl) (Every.more (volume-met 192 refl) Every.none))))))
 
 -- The judge is handed the new record's mark once that record stands whole.
 pub volume-handed : (k : ℕ) → handed (volumeWrite k)
@@ -571,7 +463,7 @@ pub volume-handed : (k : ℕ) → handed (volumeWrite k)
 unfolding handed
 volume-handed k = rw new-volume
 
-pub volume-marks : (handed (volumeWrite 191) ≡ false) × (handed (volumeWrite 192) ≡ true)
+pub volume-marks : MarkHanded
 unfolding standsWhole cut headerBytes frontBytes identityBytes historyBytes volumeBytes baseBytes tail_bytes bytes
 volume-marks = (torn-handed (volumeWrite 191) (whole-at 191), whole-handed (volumeWrite 192) refl (whole-at 192) ∙ volume-accepted.2)
   where
@@ -579,13 +471,6 @@ volume-marks = (torn-handed (volumeWrite 191) (whole-at 191), whole-handed (volu
     whole-at k = rw new-volume
 
 -- ---- a write of a page over a Blank slot
-
--- To slot B of the second page, generation 2, with A's checksum and number 5.
-abbrev nextFields : SlotFields
-nextFields = fields 2 SlotIndex.B 2 0x2c8c_2a3c 5
-
-abbrev pub secondWrite : ℕ → Write
-secondWrite = writeTo (volumePair ∷ firstPage ∷ []) secondPage [] nextFields (pageRecord 1 1)
 
 pub second-sum : headerCrc secondFields (pageRecord 1 0) ≡ 0x2c8c_2a3c
 unfolding headerCrc headerBytes frontBytes identityBytes historyBytes pageHeaderBytes bytes crc32c finalRemainder remainder digest reversed
@@ -614,23 +499,18 @@ nextPage = summedSlot 0x24b0_a7e6 0x09f7_d9dd nextFields (pageRecord 1 1)
 pub new-second : encodedBytes nextFields (pageRecord 1 1) (replicate 512 0) ≡ nextPage
 new-second = summed-is 2 SlotIndex.B 2 0x2c8c_2a3c 5 (pageRecord 1 1) 0x24b0_a7e6 0x09f7_d9dd next-refusal next-sums.0 next-sums.1
 
--- After 140 bytes the payload is half new, and half what stood there before.
-pub second-cut : Survives (secondWrite 140) (replicate 12 0)
+pub second-cut : SecondMet
 unfolding cut headerSum headerBytes frontBytes identityBytes historyBytes pageHeaderBytes bytes le crc32c finalRemainder remainder digest reversed
 second-cut =
-    survived (secondWrite 140) sound (unmarked-with firstPage) (second-correct 140) refl blankBytes nextPage refl new-second refl (replicate 12 0) refl
+    met-by (secondWrite 140) sound (unmarked-with firstPage) (second-correct 140) refl blankBytes nextPage refl new-second refl
 
 -- ---- a write over an older slot B
 
--- Pair 1 once the write to its slot A stands whole: A of generation 3, B of generation 2, whose checksum A names.
 new-known : Known newFields (pageRecord 0 0x304) (Page 0 41)
 unfolding numberOk
 new-known =
     written_known 1 SlotIndex.A 3 0xe83c_e718 5 (lit≤ tt) (lit< tt) (lit< tt) (lit< tt) (pageRecord 0 0x304) (page-bytes 0 0x304) new-refusal refl
     (Page 0 41) page-accepted.2
-
-abbrev pub laterPage : Pair
-laterPage = record { a = writtenSlot newFields (pageRecord 0 0x304); b = writtenSlot newerFields (pageRecord 0 2); decoder = Page 0 41 }
 
 unfoldable later-sound : SoundPair laterPage
 later-sound =
@@ -644,12 +524,11 @@ later-sound =
           Beside.both (infoOf newerFields (pageRecord 0 2)) newer-known.valid refl (lit< tt) (sym newer-sums.0) newer-known.accepted;
     }
 
--- To slot B, generation 4, with A's checksum and number 6. The page makes the new header's checksum that of the header it is written over.
-abbrev laterFields : SlotFields
-laterFields = fields 1 SlotIndex.B 4 0xd61e_00d0 6
+later-store : Sound laterStore
+later-store = sound-with laterPage refl later-sound
 
-abbrev pub laterWrite : ℕ → Write
-laterWrite = writeTo (volumePair ∷ []) laterPage (secondPage ∷ []) laterFields (pageRecord 0 0x21b9_61ac)
+pub stores-sound : StoresSound
+stores-sound = (sound, later-store)
 
 later-sums : (headerCrc laterFields (pageRecord 0 0x21b9_61ac) ≡ 0xe83c_e718) × (crc32c (pageRecord 0 0x21b9_61ac) ≡ 0x906d_1021)
 unfolding headerCrc headerBytes frontBytes identityBytes historyBytes pageHeaderBytes bytes crc32c finalRemainder remainder digest reversed
@@ -684,12 +563,15 @@ pub later-slot : encodedBytes laterFields (pageRecord 0 0x21b9_61ac) (replicate 
 later-slot =
     summed-is 1 SlotIndex.B 4 0xd61e_00d0 6 (pageRecord 0 0x21b9_61ac) 0xe83c_e718 0x906d_1021 later-refusal later-sums.0 later-sums.1
 
-later-survived : (k : ℕ) → cutTests k laterSlot newerSlot (pageRecord 0 0x21b9_61ac) ≡ true → Survives (laterWrite k) (replicate 12 0)
-later-survived k tests =
-    survived (laterWrite k) (sound-with laterPage refl later-sound) (unmarked-with laterPage) (later-correct k) refl newerSlot laterSlot newer-slot
-    later-slot tests (replicate 12 0) refl
+later-met : (k : ℕ) → cutTests k laterSlot newerSlot (pageRecord 0 0x21b9_61ac) ≡ true → IsMet (laterWrite k)
+later-met k =
+    met-by (laterWrite k) later-store (unmarked-with laterPage) (later-correct k) refl newerSlot laterSlot newer-slot later-slot
 
--- After 64 bytes the header is neither and fails, and the checksum stored in it is still the old one's; after 133 the payload fails.
-pub later-cuts : Every (λ (k : ℕ). Survives (laterWrite k) (replicate 12 0)) (64 ∷ 133 ∷ [])
+pub later-cuts : LaterMet
 unfolding cut headerSum headerBytes frontBytes identityBytes historyBytes pageHeaderBytes bytes le crc32c finalRemainder remainder digest reversed
-later-cuts = Every.more (later-survived 64 refl) (Every.more (later-survived 133 refl) Every.none)
+later-cuts = Every.more (later-met 64 refl) (Every.more (later-met 133 refl) Every.none)
+
+-- ---- the hypotheses are the theorem's
+
+pub met-is-enough : MetIsEnough
+met-is-enough w met out room = cut-theorem w met.sound met.unmarked met.correct met.point met.none out room

@@ -1,0 +1,69 @@
+-- What is judged and read back after a cut, and how a slot is read.
+use Rattle.std.specs.Prelude.{◌≡◌, Bool, true, false, List, [], ◌∷◌, ℕ, replicate}
+use Rattle.codec.specs.Bytes.{flag}
+use Rattle.slot.specs.declared.slot.SlotStatus.{SlotStatus}
+use Rattle.slot.specs.declared.slot.HeaderFacts.{HeaderFacts}
+use Rattle.judge_frames.specs.Frames.{judged, judgedBytes}
+use Rattle.judge.specs.declared.SlotRead.{SlotRead}
+use Rattle.verdict.specs.declared.verdict.Heal.{Heal}
+use Rattle.verdict.specs.declared.verdict.Judged.{Judged}
+use Rattle.cut.specs.Store.{Pair, slot_at, accepts, frames, slotRead}
+use Rattle.cut.specs.Cut.{Write, left, withBytes, after, handed, PayloadIs}
+
+-- ---- what is computed
+
+-- Every pair reads back a record, and its decoder accepts it.
+pub data AllRead : List Pair → List (List ℕ) → Type 0 where
+  none : AllRead [] []
+  more : {p : Pair} {ps : List Pair} {r : List ℕ} {rs : List (List ℕ)}
+      → PayloadIs p r → accepts p.decoder r ≡ true → AllRead ps rs → AllRead (p ∷ ps) (r ∷ rs)
+
+-- After the cut of w the written slot is read so; the judge answers this heal and this clean mark, writable and not refused, and writes
+-- these verdicts, four bytes a pair: standing, winner, A, B; and these records are read back.
+pub record Computed (w : Write) (slot : SlotRead) (heal : Heal) (clean : Bool) (verdict : List ℕ) (records : List (List ℕ)) : Type 0 where
+  pub read : slotRead (withBytes (left w) (slot_at w.index w.pair)) ≡ slot
+  pub answer : judged (frames (after w)) (flag (handed w)) 12
+      ≡ Judged.Done (record { heal = heal; writable = true; clean = clean; refused = false })
+  pub written : judgedBytes (frames (after w)) (flag (handed w)) (replicate 12 0) ≡ verdict
+  pub back : AllRead (after w) records
+
+-- ---- how a slot is read
+
+abbrev pub blankRead : SlotRead
+blankRead = record { status = SlotStatus.Blank; facts = HeaderFacts.Nothing }
+
+abbrev pub badMagic : SlotRead
+badMagic = record { status = SlotStatus.BadMagic; facts = HeaderFacts.Nothing }
+
+-- A header that fails its checksum, with the checksum stored in it.
+abbrev pub tornHeader : (own : ℕ) → SlotRead
+tornHeader own = record { status = SlotStatus.BadHeaderCrc; facts = HeaderFacts.Stored own }
+
+-- Of a header that passes: its own checksum and the previous one.
+abbrev pub factsWith : (generation number own prev : ℕ) → HeaderFacts
+factsWith generation number own prev =
+    HeaderFacts.Numbered own (record { generation = generation; meta_seq = number; prev_header_crc32c = prev })
+
+-- A payload that fails its checksum.
+abbrev pub tornPayload : (generation number own prev : ℕ) → SlotRead
+tornPayload generation number own prev = record { status = SlotStatus.BadPayloadCrc; facts = factsWith generation number own prev }
+
+-- A Valid slot, with a payload of some length.
+abbrev pub validRead : (generation number own prev length : ℕ) → SlotRead
+validRead generation number own prev length =
+    record {
+      status =
+          SlotStatus.Valid
+          (record {
+            generation = generation;
+            owner_generation = 1;
+            header_crc32c = own;
+            prev_header_crc32c = prev;
+            ro_compat_flags = 0;
+            compat_flags = 0;
+            meta_seq = number;
+            payload_start = 128;
+            payload_len = length;
+          });
+      facts = factsWith generation number own prev;
+    }
