@@ -6,3 +6,4 @@ pub mod NameLaws
 pub mod BaseLaws
 pub mod VolumeLaws
 pub mod EntryLaws
+pub mod PageLaws

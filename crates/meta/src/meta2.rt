@@ -796,12 +796,19 @@ fn check_own(e: &[u8; ENTRY2_LEN], next_seq: u32) -> Result<(), MetaError>
 
 /// Whether one of the entries has this sequence number. They are scanned by eights: a scan of a constant length compiles to a row of
 /// comparisons.
+#[tactic(auto, using(crate::proofs::PageLaws::any_eights))]
 fn shares(entries: &[[u8; ENTRY2_LEN]], number: u32) -> bool
     ensures { result ≡ shares number entries.now }
 {
     let (eights, rest) = entries.as_chunks::<8>();
-    eights.iter().any(|eight| eight.iter().any(|e| seq(e) == number))
-        || rest.iter().any(|e| seq(e) == number)
+    eights.iter().any(|eight| one_of(eight, number)) || one_of(rest, number)
+}
+
+/// The same, an entry a step.
+fn one_of(entries: &[[u8; ENTRY2_LEN]], number: u32) -> bool
+    ensures { result ≡ shares number entries.now }
+{
+    entries.iter().any(|e| seq(e) == number)
 }
 
 /// An entry's sequence number.
@@ -812,7 +819,7 @@ fn seq(e: &[u8; ENTRY2_LEN]) -> u32
 }
 
 /// Encodes a page of entries as they are stored, but for zeros at 38, and returns the payload's length. A refusal keeps `out`.
-#[tactic(auto, unfolding(crate::specs::Page::encode_page, crate::specs::Page::page_bytes, crate::specs::Page::header_bytes))]
+#[tactic(auto, unfolding(crate::specs::Page::encode_page, crate::specs::Page::page_bytes), using(crate::proofs::PageLaws::header_fits))]
 pub fn encode_page(
     out: &mut [u8],
     h: &PageHeader,
@@ -830,7 +837,7 @@ pub fn encode_page(
     if out.len() < len {
         return Err(MetaError::Length);
     }
-    let Some(_) = h.write(&mut out[..PAGE_HEADER_LEN]) else {
+    let Some(_) = h.write(out) else {
         return Err(MetaError::Length);
     };
     write_entries(&mut out[PAGE_HEADER_LEN..len], entries);
