@@ -1,4 +1,6 @@
+pub mod ErrorLaws
 pub mod BlockLaws
+pub mod LayoutLaws
 pub mod Rows
 pub mod Encoding
 pub mod Utf8Laws

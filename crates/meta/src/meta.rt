@@ -469,3 +469,27 @@ impl VolumeMeta {
         w.zeros(out, 8)
     }
 }
+
+/// Does nothing: its contract is that a refusal's number fixes the refusal.
+#[tactic(auto, using(crate::proofs::ErrorLaws::numbered))]
+pub fn case_law()
+    ensures { Numbered }
+{}
+
+/// Does nothing: its contract is that UTF-8 is the encodings of runs of scalar values, and nothing else.
+#[tactic(auto, using(crate::proofs::Utf8Laws::grammar_encodes))]
+pub fn grammar_law()
+    ensures { GrammarEncodes }
+{}
+
+/// Does nothing: its contract is that names are the encodings of scalar values in 1 to 24 bytes, none of them zero.
+#[tactic(auto, using(crate::proofs::NameLaws::names_are))]
+pub fn name_law()
+    ensures { NamesAre }
+{}
+
+/// Does nothing: its contract is the round trip of names.
+#[tactic(auto, using(crate::proofs::NameLaws::names_back))]
+pub fn names_back()
+    ensures { NamesBack }
+{}

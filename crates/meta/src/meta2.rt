@@ -43,6 +43,7 @@
 ghost use Rattle.std.specs.Prelude.{◌≡◌, ◌≤◌, ◌*◌, length};
 ghost use Rattle.std.specs.List.{flat_map};
 ghost use Rattle.codec.specs.Cursor.{write_row};
+ghost use Rattle.meta.specs.Base.{BaseLayout};
 ghost use Rattle.meta.specs.Block.{block_size, entries_per_page};
 ghost use Rattle.meta.specs.Name.{name_in};
 ghost use Rattle.meta.specs.Volume.{tail_at, check_tail, decode_volume, volume_row, encode_volume, table_end, check_file_len, TailLayout, VolumesBack};
@@ -863,3 +864,12 @@ fn write_entry(place: &mut [u8], entry: &[u8; ENTRY2_LEN])
     place.copy_from_slice(entry);
     place[38..40].fill(0);
 }
+
+/// Does nothing: its contract is the layouts of the volume record, of entries and of a page's header, by offsets.
+#[tactic(auto, using(crate::proofs::LayoutLaws::base_layout, crate::proofs::LayoutLaws::tail_layout, crate::proofs::LayoutLaws::entry_layout, crate::proofs::LayoutLaws::header_layout))]
+pub fn layout_law()
+    ensures base { BaseLayout }
+    ensures tail { TailLayout }
+    ensures entry { EntryLayout }
+    ensures header { HeaderLayout }
+{}
