@@ -1,6 +1,7 @@
 pub mod ErrorLaws
 pub mod BlockLaws
 pub mod LayoutLaws
+pub mod RoundLaws
 pub mod Rows
 pub mod Encoding
 pub mod Utf8Laws

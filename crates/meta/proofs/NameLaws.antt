@@ -71,7 +71,7 @@ zeros_zero : (n : ℕ) → list_all (λ b. b == 0) (replicate n 0) ≡ true
 zeros_zero zero = refl
 zeros_zero (suc n) = zeros_zero n
 
-all_zeros : (s : List ℕ) → list_all (λ b. b == 0) s ≡ true → s ≡ replicate (length s) 0
+pub all_zeros : (s : List ℕ) → list_all (λ b. b == 0) s ≡ true → s ≡ replicate (length s) 0
 all_zeros [] zeros = refl
 all_zeros (b ∷ s) zeros = go (b == 0) refl zeros (all_zeros s)
   where
@@ -101,7 +101,7 @@ given s name is = go (is_name s) is
 
 -- ---- read back
 
-stored_bytes : (raw : List ℕ) (name : RegionName) → padded raw ≡ Ok name → length raw ≡ 24 → name.bytes ≡ raw
+pub stored_bytes : (raw : List ℕ) (name : RegionName) → padded raw ≡ Ok name → length raw ≡ 24 → name.bytes ≡ raw
 unfolding name_in
 stored_bytes raw name is size = go (list_all (λ b. b == 0) padding) refl is
   where

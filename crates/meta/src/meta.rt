@@ -20,7 +20,7 @@ ghost use Rattle.meta.specs.Kind.{kind_number, kind_at, state_number, state_at};
 ghost use Rattle.meta.specs.Utf8.{utf8};
 ghost use Rattle.meta.specs.Scalar.{GrammarEncodes};
 ghost use Rattle.meta.specs.Name.{is_name, zero_at, named, padded, text, name_text, NamesAre, NamesBack};
-ghost use Rattle.meta.specs.Base.{base_at, check_base, decode_base, base_row, encode_base, BaseLayout, BasesBack};
+ghost use Rattle.meta.specs.Base.{base_at, check_base, decode_base, base_row, encode_base, BasesBack};
 
 use codec::codec::{Reader, Writer};
 use std::error::Error;
@@ -492,4 +492,10 @@ pub fn name_law()
 #[tactic(auto, using(crate::proofs::NameLaws::names_back))]
 pub fn names_back()
     ensures { NamesBack }
+{}
+
+/// Does nothing: its contract is the round trip of the base.
+#[tactic(auto, using(crate::proofs::BaseLaws::bases_back))]
+pub fn bases_back()
+    ensures { BasesBack }
 {}

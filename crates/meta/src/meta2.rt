@@ -873,3 +873,21 @@ pub fn layout_law()
     ensures entry { EntryLayout }
     ensures header { HeaderLayout }
 {}
+
+/// Does nothing: its contract is the round trip of volume records.
+#[tactic(auto, using(crate::proofs::VolumeLaws::volumes_back))]
+pub fn volumes_back()
+    ensures { VolumesBack }
+{}
+
+/// Does nothing: its contract is the round trip of entries.
+#[tactic(auto, using(crate::proofs::EntryLaws::entries_back))]
+pub fn entries_back()
+    ensures { EntriesBack }
+{}
+
+/// Does nothing: its contract is the round trip of pages.
+#[tactic(auto, using(crate::proofs::PageLaws::pages_back))]
+pub fn pages_back()
+    ensures { PagesBack }
+{}
