@@ -3,3 +3,4 @@ pub mod Payload
 pub mod Header
 pub mod Read
 pub mod Write
+pub mod Numbers
