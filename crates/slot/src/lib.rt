@@ -3,5 +3,6 @@
 
 pub mod encode;
 pub mod header;
+pub mod laws;
 pub mod slot;
 pub mod validate;
