@@ -2,3 +2,4 @@ pub mod NumberLaws
 pub mod PassLaws
 pub mod RowLaws
 pub mod CellLaws
+pub mod FrameLaws

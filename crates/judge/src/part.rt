@@ -63,6 +63,7 @@ impl Version {
     }
 }
 
+#[tactic(auto, unfolding(codec::specs::Bytes::le))]
 fn u32_at(frame: &[u8], at: usize) -> u32
     requires { at + 4 ≤ length frame.now }
     ensures { result ≡ le32 frame.now at }
@@ -72,6 +73,7 @@ fn u32_at(frame: &[u8], at: usize) -> u32
     u32::from_le_bytes(bytes)
 }
 
+#[tactic(auto, unfolding(codec::specs::Bytes::le))]
 fn u64_at(frame: &[u8], at: usize) -> u64
     requires { at + 8 ≤ length frame.now }
     ensures { result ≡ le64 frame.now at }
@@ -103,6 +105,7 @@ impl SlotPart {
     }
 
     // The part as it stands in a frame,
+    #[tactic(auto, unfolding(crate::specs::Part::part_bytes))]
     pub fn bytes(self) -> [u8; PART]
         ensures { result ≡ part_bytes self }
     {

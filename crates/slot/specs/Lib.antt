@@ -5,3 +5,4 @@ pub mod Read
 pub mod Write
 pub mod Laws
 pub mod Table
+pub mod Numbers

@@ -4,5 +4,6 @@
 pub mod encode;
 pub mod header;
 pub mod laws;
+pub mod numbers;
 pub mod slot;
 pub mod validate;
