@@ -1,18 +1,12 @@
 -- The verdicts in a list of bytes, four each: how many there are, what is read and written of one, and the list as their bytes.
-use Rattle.std.proofs.Common.{◌≡◌, refl, sym, ap, ◌∙◌, Bool, true, false, List, [], ◌∷◌, ◌++◌, ℕ, zero, suc, ◌+◌, ◌*◌, ◌/◌, ◌%◌, ◌<◌, ◌&&◌, length, get_or, set, map, flat_map, slice_get, arith, Option, Some, None, eqb, eqb-true, eq-eqb, ne_eqb}
-use borrow.Author.Tests.{eqb-false}
+use Rattle.std.proofs.Common.{◌≡◌, refl, ap, ◌∙◌, List, [], ◌∷◌, ◌++◌, ℕ, zero, suc, ◌+◌, ◌*◌, ◌/◌, ◌%◌, ◌<◌, ◌&&◌, length, get_or, set, map, flat_map, slice_get, arith, Some, eqb}
 use Rattle.judge.specs.declared.verdict.PairVerdict.{PairVerdict}
 use Rattle.judge.specs.Values.{standing_from, choice_from, slot_verdict_from}
 use Rattle.judge.specs.Frames.{verdict_bytes, verdict_from, verdict_cells, row_bytes}
 
 -- So many verdicts, as the code asks it.
 pub whole_cells : (len n : ℕ) → eqb (len % 4) 0 && eqb (len / 4) n ≡ eqb len (n * 4)
-whole_cells len n = go (eqb (len % 4) 0) (eqb (len / 4) n) refl refl
-  where
-    go : (whole many : Bool) → eqb (len % 4) 0 ≡ whole → eqb (len / 4) n ≡ many → whole && many ≡ eqb len (n * 4)
-    go true true w m = let w' = eqb-true (len % 4) 0 w in let m' = eqb-true (len / 4) n m in sym (eq-eqb len (n * 4) (omega arith))
-    go true false w m = let m' = eqb-false (len / 4) n m in sym (ne_eqb len (n * 4) (λ same. m' (omega arith)))
-    go false many w m = let w' = eqb-false (len % 4) 0 w in sym (ne_eqb len (n * 4) (λ same. w' (omega arith)))
+whole_cells len n = grind arith
 
 pub length_cells : (s : List ℕ) → length (verdict_cells s) ≡ length s / 4
 length_cells [] = refl

@@ -1,13 +1,12 @@
 -- The frames filled from a row of pairs stand for that row, so that the judge over them judges it: there is an error only for an empty row,
 -- another room than the verdicts need, and a mark out of range.
-use Rattle.std.proofs.Common.{◌≡◌, refl, sym, ap, ap₂, ◌∙◌, Bool, true, false, ◌&&◌, List, [], ◌∷◌, ◌++◌, ℕ, zero, suc, ◌+◌, ◌*◌, ◌%◌, arith, eqb, leb, length, map, flat_map, take, drop, length-append, take_at, drop_at, append-nil, Option, Some, None}
+use Rattle.std.proofs.Common.{◌≡◌, refl, sym, ap, ap₂, ◌∙◌, Bool, true, false, ◌&&◌, List, [], ◌∷◌, ◌++◌, ℕ, ◌*◌, arith, eqb, leb, length, map, length-append, take_at, drop_at, append-nil, Option, Some, None}
 use Rattle.std.specs.List.{list_all}
 use Rattle.std.specs.Simd.{first_chunks}
 use Rattle.codec.proofs.ReadLaws.{start, onward}
 use Rattle.judge.specs.declared.pairs.Pair.{Pair}
 use Rattle.judge.specs.declared.part.SlotPart.{SlotPart}
 use Rattle.judge.specs.declared.verdict.PairVerdict.{PairVerdict}
-use Rattle.judge.specs.declared.verdict.Judgement.{Judgement}
 use Rattle.judge.specs.declared.verdict.JudgeError.{JudgeError}
 use Rattle.judge.specs.declared.records.PairRead.{PairRead}
 use Rattle.judge.specs.Part.{part_bytes, part_at, part_shown, is_in_range}
@@ -73,8 +72,7 @@ length-pairs [] = refl
 length-pairs (f ∷ fs) = simp (length-pairs fs)
 
 and-true : (x : Bool) → x && true ≡ x
-and-true true = refl
-and-true false = refl
+and-true x = grind arith
 
 -- ---- the judge over them
 
@@ -135,21 +133,21 @@ same_judge =
     record {
       answer = λ fs fits clean room. answer-is fs fits (mark clean) (room * verdict_width) ∙ simp (same-error (pairs_of fs) clean room, (mark-back clean).1);
       verdicts = λ fs fits clean out.
-      let by_frames =
-      simp (length-verdicts out, same-error (pairs_of fs) clean (length out), (mark-back clean).1)
-      at (verdicts-are fs fits (mark clean) (row_bytes out)) in
-      by_frames ∙ left-bytes (records_error (pairs_of fs) (length out)) (verdicts (map pair_read (pairs_of fs)) clean) out;
+          let by_frames =
+          simp (length-verdicts out, same-error (pairs_of fs) clean (length out), (mark-back clean).1)
+          at (verdicts-are fs fits (mark clean) (row_bytes out)) in
+          by_frames ∙ left-bytes (records_error (pairs_of fs) (length out)) (verdicts (map pair_read (pairs_of fs)) clean) out;
     }
 
 pub ignored_fields : IgnoredFields
 ignored_fields =
     record {
       answer = λ fs gs fits fits' same clean room.
-      answer-is fs fits clean room
-      ∙ ap (λ (ps : List PairRead). unless (framed_error ps clean room) (judgement (map pair_read ps) (eqb clean 1))) same
-      ∙ sym (answer-is gs fits' clean room);
+          answer-is fs fits clean room
+          ∙ ap (λ (ps : List PairRead). unless (framed_error ps clean room) (judgement (map pair_read ps) (eqb clean 1))) same
+          ∙ sym (answer-is gs fits' clean room);
       verdicts = λ fs gs fits fits' same clean out.
-      verdicts-are fs fits clean out
-      ∙ ap (λ (ps : List PairRead). left (framed_error ps clean (length out)) (row_bytes (verdicts (map pair_read ps) (eqb clean 1))) out) same
-      ∙ sym (verdicts-are gs fits' clean out);
+          verdicts-are fs fits clean out
+          ∙ ap (λ (ps : List PairRead). left (framed_error ps clean (length out)) (row_bytes (verdicts (map pair_read ps) (eqb clean 1))) out) same
+          ∙ sym (verdicts-are gs fits' clean out);
     }

@@ -1,5 +1,5 @@
 -- The numbers of standings, winners, slot verdicts, heals and errors, both ways (docs/FORMAT.md, "The store verdict" and "Refusals").
-use Rattle.std.specs.Prelude.{◌≡◌, ℕ, ◌==◌, if◌then◌else◌, Option, Some, None}
+use Rattle.std.specs.Prelude.{ℕ, ◌==◌, if◌then◌else◌, Option, Some, None}
 use Rattle.slot.specs.declared.slot.SlotIndex.{SlotIndex}
 use Rattle.slot.specs.Status.{slot_number}
 use Rattle.judge.specs.declared.verdict.SlotVerdict.{SlotVerdict}

@@ -34,7 +34,8 @@ impl SlotRead {
                 SlotStatus::BadPayloadCrc,
                 Some(
                     HeaderFacts {
-                        numbered: Some(_), ..
+                        numbered: Some(_),
+                        ..
                     },
                 ),
             ) => Shown::BadPayload(Version::of_facts(self.facts)),
