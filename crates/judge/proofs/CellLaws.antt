@@ -1,5 +1,5 @@
 -- The verdicts in a list of bytes, four each: how many there are, what is read and written of one, and the list as their bytes.
-use Rattle.std.proofs.Common.{◌≡◌, refl, ap, ◌∙◌, List, [], ◌∷◌, ◌++◌, ℕ, zero, suc, ◌+◌, ◌*◌, ◌/◌, ◌%◌, ◌<◌, ◌&&◌, length, get_or, set, map, flat_map, slice_get, arith, Some, eqb}
+use Rattle.std.proofs.Common.{◌≡◌, refl, ap, ◌∙◌, List, [], ◌∷◌, ◌++◌, ℕ, zero, suc, ◌+◌, ◌*◌, ◌/◌, ◌%◌, ◌<◌, ◌&&◌, length, get_or, set, take, drop, map, flat_map, slice_get, arith, Some, eqb}
 use Rattle.judge.specs.declared.verdict.PairVerdict.{PairVerdict}
 use Rattle.judge.specs.Values.{standing_from, choice_from, slot_verdict_from}
 use Rattle.judge.specs.Frames.{verdict_bytes, verdict_from, verdict_cells, row_bytes}
@@ -39,15 +39,15 @@ cells_read (x ∷ y ∷ z ∷ []) i within = absurd (omega arith)
 cells_read (x ∷ y ∷ z ∷ w ∷ s) zero within = refl
 cells_read (x ∷ y ∷ z ∷ w ∷ s) (suc i) within = rw (next i, past (i * 4) 1, past (i * 4) 2, past (i * 4) 3) (cells_read s i (omega arith))
 
-pub cells_put : (s : List ℕ) (i x y z w : ℕ) → i < length (verdict_cells s)
-    → verdict_cells (set (set (set (set s (i * 4) x) (i * 4 + 1) y) (i * 4 + 2) z) (i * 4 + 3) w) ≡ set (verdict_cells s) i (x ∷ y ∷ z ∷ w ∷ [])
-cells_put [] i x y z w within = absurd (omega arith)
-cells_put (a ∷ []) i x y z w within = absurd (omega arith)
-cells_put (a ∷ b ∷ []) i x y z w within = absurd (omega arith)
-cells_put (a ∷ b ∷ c ∷ []) i x y z w within = absurd (omega arith)
-cells_put (a ∷ b ∷ c ∷ d ∷ s) zero x y z w within = refl
-cells_put (a ∷ b ∷ c ∷ d ∷ s) (suc i) x y z w within =
-    rw (next i, past (i * 4) 1, past (i * 4) 2, past (i * 4) 3) (ap (λ (rest : List (List ℕ)). (a ∷ b ∷ c ∷ d ∷ []) ∷ rest) (cells_put s i x y z w (omega arith)))
+pub cells_put : (s : List ℕ) (i : ℕ) (v : PairVerdict) → i < length (verdict_cells s)
+    → verdict_cells (take (i * 4) s ++ (verdict_bytes v ++ drop 4 (drop (i * 4) s))) ≡ set (verdict_cells s) i (verdict_bytes v)
+cells_put [] i v within = absurd (omega arith)
+cells_put (a ∷ []) i v within = absurd (omega arith)
+cells_put (a ∷ b ∷ []) i v within = absurd (omega arith)
+cells_put (a ∷ b ∷ c ∷ []) i v within = absurd (omega arith)
+cells_put (a ∷ b ∷ c ∷ d ∷ s) zero v within = refl
+cells_put (a ∷ b ∷ c ∷ d ∷ s) (suc i) v within =
+    rw (next i) (ap (λ (rest : List (List ℕ)). (a ∷ b ∷ c ∷ d ∷ []) ∷ rest) (cells_put s i v (omega arith)))
 
 -- Where no rest is left, the list is its verdicts' bytes.
 joined : (s : List ℕ) → length s % 4 ≡ 0 → s ≡ flat_map (λ (four : List ℕ). four) (verdict_cells s)

@@ -98,11 +98,7 @@ impl Verdicts for VerdictBytes<'_> {
     #[tactic(auto, using(crate::proofs::CellLaws::length_cells, crate::proofs::CellLaws::cells_put))]
     fn put(&mut self, i: usize, v: PairVerdict) {
         let at = i * VERDICT;
-        let bytes = v.bytes();
-        self.0[at] = bytes[0];
-        self.0[at + 1] = bytes[1];
-        self.0[at + 2] = bytes[2];
-        self.0[at + 3] = bytes[3];
+        self.0[at..at + VERDICT].copy_from_slice(&v.bytes());
     }
 
     ghost fitted = { λ s n. cells_fit s.0.now n };
