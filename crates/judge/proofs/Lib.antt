@@ -1,2 +1,4 @@
+pub mod NumberLaws
+pub mod PassLaws
 pub mod RowLaws
-pub mod SameJudge
+pub mod CellLaws

@@ -1,70 +1,139 @@
--- What the passes leave of a row that is not refused is its judgement.
-use Rattle.std.proofs.Common.{◌≡◌, refl, sym, ap, ◌∙◌, Bool, true, List, [], ◌∷◌, ℕ, length, eq-eqb, ne_eqb}
-use Rattle.candidate.specs.declared.numbers.Maxima.{Maxima}
-use Rattle.candidate.specs.Numbers.{slots}
-use Rattle.candidate.specs.Maxima.{noMaxima, noteAll}
-use Rattle.verdict.specs.declared.verdict.Heal.{Heal}
-use Rattle.verdict.specs.declared.verdict.Judged.{Judged}
-use Rattle.verdict.specs.declared.verdict.Judgement.{Judgement}
-use Rattle.verdict.specs.declared.verdict.PairVerdict.{PairVerdict}
-use Rattle.verdict.specs.declared.verdict.StoreRules.{StoreRules}
-use Rattle.verdict.specs.declared.verdict.Tally.{Tally}
-use Rattle.verdict.specs.Judge.{refusedRow, storeRules, lastVerdicts, volumeVerdict, demoted, writable, verdicts, judgeRow}
-use Rattle.verdict.specs.Passes.{verdictsBy, noTally, tallies, heals}
-use Rattle.verdict.proofs.PassLaws.{row-judged, verdicts-judged}
-use Rattle.judge.specs.declared.PairRead.{PairRead}
-use Rattle.judge.specs.Row.{pairRead, rowRead, rowJudged, rowVerdicts}
+-- What the passes leave of a row is its judgement, whatever the verdicts are kept in.
+use Rattle.std.proofs.Common.{◌≡◌, refl, ap, ◌∙◌, Bool, true, List, [], ◌∷◌, ◌++◌, ℕ, zero, suc, ◌+◌, ◌<◌, length, map, set, take, drop, arith, add-one, cond, ◌||◌, false, eq-eqb, ne_eqb, slice_get, Option, Some, None}
+use Rattle.std.proofs.lemmas.List.{drop-set-lt, take_more_set}
+use Rattle.slot.specs.declared.slot.SlotIndex.{SlotIndex}
+use Rattle.judge.specs.declared.pairs.Pair.{Pair}
+use Rattle.judge.specs.declared.numbers.Maxima.{Maxima}
+use Rattle.judge.specs.declared.verdict.PairVerdict.{PairVerdict}
+use Rattle.judge.specs.declared.verdict.Tally.{Tally}
+use Rattle.judge.specs.declared.verdict.StoreRules.{StoreRules}
+use Rattle.judge.specs.declared.verdict.Judgement.{Judgement}
+use Rattle.judge.specs.Numbers.{slots}
+use Rattle.judge.specs.Maxima.{no_maxima, note_all}
+use Rattle.judge.specs.Verdict.{is_in_flight, in_flight}
+use Rattle.judge.specs.Judge.{demoted, healOf, first_verdicts, first_tally, volume_verdict, store_rules, last_verdicts, heals, writable, row_rules, verdicts, judgement}
+use Rattle.judge.specs.Passes.{verdicts_by, no_tally, tallies}
+use Rattle.judge.proofs.PassLaws.{verdicts-same, tally-same}
+use Rattle.judge.specs.Row.{all, refusal}
 
--- A row of as many verdicts as pairs, and of one pair at least.
-admitted : (n room : ℕ) → (n ≡ 0 → ⊥) → room ≡ n → refusedRow n room ≡ 0
-unfolding refusedRow
-admitted n room some same = simp (ne_eqb n 0 some, eq-eqb room n same)
+-- The highest numbers are answered where all values are in range.
+pub in-range : {A : Type 0} (ok : Bool) (x m : A) → Some m ≡ cond ok (Some x) None → (ok ≡ true) × (m ≡ x)
+in-range true x m is = (refl, cc)
+in-range false x m is = (cc, cc)
 
--- What the passes leave: the highest numbers, the tally, the first verdicts, the volume record's and the rules.
-module _ (ps : List PairRead) (clean : Bool) {m : Maxima} {t : Tally} {firsts : List PairVerdict} {volume : PairVerdict} {rules : StoreRules}
-    (some : length ps ≡ 0 → ⊥)
-    (m-is : m ≡ noteAll noMaxima (slots (rowRead ps)))
-    (t-is : t ≡ tallies m true noTally (rowRead ps))
-    (firsts-are : firsts ≡ verdictsBy m (rowRead ps))
-    (volume-is : volume ≡ volumeVerdict firsts)
-    (rules-is : rules ≡ storeRules clean t volume) where
-  abbrev lasts : List PairVerdict
-  lasts = lastVerdicts rules.volume_demote rules.page_demote firsts
+pub admitted : (n room : ℕ) (ok : Bool) → (n ≡ 0 → ⊥) → room ≡ n → ok ≡ true → refusal n room ok ≡ None
+admitted n room ok some same within = simp (ne_eqb n 0 some, eq-eqb room n same, within)
 
-  settled : lasts ≡ verdicts (rowRead ps) clean
-  settled = go ps some m-is t-is firsts-are
-    where
-      go : (ps : List PairRead) → (length ps ≡ 0 → ⊥) → m ≡ noteAll noMaxima (slots (rowRead ps)) → t ≡ tallies m true noTally (rowRead ps)
-          → firsts ≡ verdictsBy m (rowRead ps) → lasts ≡ verdicts (rowRead ps) clean
-      go [] some m-is t-is firsts-are = absurd (some refl)
-      go (p ∷ rest) some m-is t-is firsts-are =
-          ap (lastVerdicts rules.volume_demote rules.page_demote) firsts-are
-          ∙ verdicts-judged (pairRead p) (rowRead rest) (rowRead (p ∷ rest)) refl clean m t volume rules m-is t-is (volume-is ∙ ap volumeVerdict firsts-are) rules-is
+head-is : (vs : List PairVerdict) (v : PairVerdict) → slice_get vs 0 ≡ Some v → v ≡ volume_verdict vs
+head-is [] v is = cc
+head-is (x ∷ vs) v is = cc
 
-  judgement : {last : PairVerdict} {h : Heal} {w : Bool} → h ≡ heals 0 Heal.Nothing lasts → last ≡ volumeVerdict lasts
-      → w ≡ writable t.refused t.page_had_candidate volume.standing last.standing
-      → ◌≡◌ {A = Judgement} (record { heal = h; writable = w; clean = rules.clean; refused = t.refused }) (judgeRow (rowRead ps) clean)
-  judgement {last} {h} {w} h-is last-is w-is = go ps some m-is t-is firsts-are
-    where
-      go : (ps : List PairRead) → (length ps ≡ 0 → ⊥) → m ≡ noteAll noMaxima (slots (rowRead ps)) → t ≡ tallies m true noTally (rowRead ps)
-          → firsts ≡ verdictsBy m (rowRead ps)
-          → ◌≡◌ {A = Judgement} (record { heal = h; writable = w; clean = rules.clean; refused = t.refused }) (judgeRow (rowRead ps) clean)
-      go [] some m-is t-is firsts-are = absurd (some refl)
-      go (p ∷ rest) some m-is t-is firsts-are =
-          let first = volume-is ∙ ap volumeVerdict firsts-are in
-          let left = ap (lastVerdicts rules.volume_demote rules.page_demote) firsts-are in
-          row-judged (pairRead p) (rowRead rest) (rowRead (p ∷ rest)) refl clean m t volume rules m-is t-is first rules-is
-          (h-is ∙ ap (heals 0 Heal.Nothing) left)
-          (last-is ∙ ap volumeVerdict left ∙ ap (demoted rules.volume_demote) (sym first))
-          w-is
+-- One verdict more is settled, and one less is left.
+module _ {C : Type 0} (cell : PairVerdict → C) (read : C → PairVerdict) where
+  left-step : (cs : List C) (i : ℕ) (v : PairVerdict) → slice_get (map read cs) i ≡ Some v → map read (drop i cs) ≡ v ∷ map read (drop (suc i) cs)
+  left-step [] i v is = cc
+  left-step (c ∷ cs) zero v is = cc
+  left-step (c ∷ cs) (suc i) v is = left-step cs i v is
 
-  module _ (out : List PairVerdict) (same : length out ≡ length ps) where
-    pub passes-verdicts : lasts ≡ rowVerdicts ps clean out
-    unfolding rowVerdicts
-    passes-verdicts = settled ∙ simp (admitted (length ps) (length out) some same)
+  pub settled : (cs new : List C) (i : ℕ) (v w : PairVerdict) → i < length cs → slice_get (map read cs) i ≡ Some v → new ≡ set cs i (cell w)
+      → (map read (drop i cs) ≡ v ∷ map read (drop (i + 1) new)) × (take (i + 1) new ≡ take i cs ++ cell w ∷ [])
+  settled cs new i v w within is new-is = (
+    left-step cs i v is ∙ rw (new-is, drop-set-lt (i + 1) cs i (cell w) (omega arith), add-one),
+    rw (new-is, take_more_set cs i (cell w) within),
+  )
 
-    pub passes-judge : {last : PairVerdict} {h : Heal} {w : Bool} → h ≡ heals 0 Heal.Nothing lasts → last ≡ volumeVerdict lasts
+module _ {C : Type 0} (cell : PairVerdict → C) (read : C → PairVerdict) (back : (v : PairVerdict) → read (cell v) ≡ v) where
+  read-all : (vs : List PairVerdict) → map read (map cell vs) ≡ vs
+  read-all [] = refl
+  read-all (v ∷ vs) = rw (back v, read-all vs)
+
+-- Nothing is in flight: the verdict stays.
+pub idle : (demote : Bool) (v : PairVerdict) → in_flight v ≡ false → demoted demote v ≡ v
+idle true v none = rw none
+idle false v none = refl
+
+pub idle-heal : (i : ℕ) (before : Option (ℕ × SlotIndex)) (v : PairVerdict) → in_flight v ≡ false → healOf i before v ≡ before
+idle-heal i before v none = go (is_in_flight v.a) (is_in_flight v.b) none
+  where
+    go : (a b : Bool) → a || b ≡ false → cond b (Some (i, SlotIndex.B)) (cond a (Some (i, SlotIndex.A)) before) ≡ before
+    go true b none = cc
+    go false true none = cc
+    go false false none = refl
+
+-- Cells that each hold a verdict.
+module _ {C : Type 0} (cell : PairVerdict → C) (read : C → PairVerdict) where
+  abbrev pub AllHold : List C → Type 0
+  AllHold cs = map cell (map read cs) ≡ cs
+
+  keeps : (cs : List C) (i : ℕ) (v : PairVerdict) → AllHold cs → slice_get (map read cs) i ≡ Some v → take (suc i) cs ≡ take i cs ++ cell v ∷ []
+  keeps [] i v hold is = cc
+  keeps (c ∷ cs) zero v hold is = cc
+  keeps (c ∷ cs) (suc i) v hold is = let rest : AllHold cs = cc in ap (λ (more : List C). c ∷ more) (keeps cs i v rest is)
+
+  -- One verdict more stays, and one less is left.
+  pub stayed : (cs : List C) (i : ℕ) (v : PairVerdict) → AllHold cs → slice_get (map read cs) i ≡ Some v
+      → (map read (drop i cs) ≡ v ∷ map read (drop (i + 1) cs)) × (take (i + 1) cs ≡ take i cs ++ cell v ∷ [])
+  stayed cs i v hold is = (left-step cell read cs i v is ∙ rw add-one, rw add-one (keeps cs i v hold is))
+
+  pub put-holds : ((v : PairVerdict) → read (cell v) ≡ v) → (cs : List C) (i : ℕ) (w : PairVerdict) → AllHold cs → AllHold (set cs i (cell w))
+  put-holds back [] i w hold = refl
+  put-holds back (c ∷ cs) zero w hold = let rest : AllHold cs = cc in rw (back w, rest)
+  put-holds back (c ∷ cs) (suc i) w hold =
+      let first : cell (read c) ≡ c = cc in
+      let rest : AllHold cs = cc in
+      rw (first, put-holds back cs i w rest)
+
+  pub written-hold : ((v : PairVerdict) → read (cell v) ≡ v) → (cs : List C) (vs : List PairVerdict) → cs ≡ map cell vs → AllHold cs
+  written-hold back cs vs is = rw (is, read-all cell read back vs)
+
+module _ {C : Type 0} (cell : PairVerdict → C) (read : C → PairVerdict) (back : (v : PairVerdict) → read (cell v) ≡ v) where
+  module _ (ps : List Pair) (clean : Bool) {m : Maxima} {t : Tally} {firsts lasts : List C} {volume : PairVerdict} {rules : StoreRules}
+      (m-is : m ≡ note_all no_maxima (slots ps))
+      (t-is : t ≡ tallies m true no_tally ps)
+      (firsts-are : firsts ≡ map cell (verdicts_by m ps))
+      (volume-is : slice_get (map read firsts) 0 ≡ Some volume)
+      (rules-is : rules ≡ store_rules clean t volume)
+      (lasts-are : lasts ≡ map cell (last_verdicts rules.volume_demote rules.page_demote (map read firsts))) where
+    by_definition : verdicts_by m ps ≡ first_verdicts ps
+    by_definition = ap (λ (n : Maxima). verdicts_by n ps) m-is ∙ verdicts-same ps
+
+    first : map read firsts ≡ first_verdicts ps
+    first = ap (map read) firsts-are ∙ read-all cell read back (verdicts_by m ps) ∙ by_definition
+
+    tally : t ≡ first_tally ps (first_verdicts ps)
+    tally = t-is ∙ tally-same m ps ∙ ap (first_tally ps) by_definition
+
+    volume-first : volume ≡ volume_verdict (first_verdicts ps)
+    volume-first = head-is (map read firsts) volume volume-is ∙ ap volume_verdict first
+
+    row-rules : rules ≡ row_rules ps clean
+    unfolding row_rules
+    row-rules = rules-is ∙ rw (tally, volume-first)
+
+    last-verdicts : last_verdicts rules.volume_demote rules.page_demote (map read firsts) ≡ verdicts ps clean
+    unfolding verdicts
+    last-verdicts = rw (first, row-rules)
+
+    pub cells-judged : lasts ≡ map cell (verdicts ps clean)
+    cells-judged = lasts-are ∙ ap (map cell) last-verdicts
+
+    pub row-judged : {h : Option (ℕ × SlotIndex)} {w : Bool} {last : PairVerdict}
+        → h ≡ heals 0 None (last_verdicts rules.volume_demote rules.page_demote (map read firsts))
+        → slice_get (map read lasts) 0 ≡ Some last
         → w ≡ writable t.refused t.page_had_candidate volume.standing last.standing
-        → ◌≡◌ {A = Judged} (Judged.Done (record { heal = h; writable = w; clean = rules.clean; refused = t.refused })) (rowJudged ps clean (length out))
-    unfolding rowJudged
-    passes-judge h-is last-is w-is = simp (admitted (length ps) (length out) some same) (ap Judged.Done (judgement h-is last-is w-is))
+        → ◌≡◌ {A = Judgement} (record { heal = h; writable = w; clean = rules.clean; refused = t.refused }) (judgement ps clean)
+    unfolding judgement first_tally
+    row-judged {last = last} h-is last-is w-is =
+        let judged : map read lasts ≡ verdicts ps clean = ap (map read) cells-judged ∙ read-all cell read back (verdicts ps clean) in
+        let last-one = head-is (map read lasts) last last-is ∙ ap volume_verdict judged in
+        rw (w-is, h-is, last-verdicts, last-one, volume-first, row-rules, tally)
+
+-- ---- pairs that are all in range, and verdicts that are kept as they are
+
+pub all-true : {A : Type 0} (xs : List A) → all (map (λ (x : A). true) xs) ≡ true
+all-true [] = refl
+all-true (x ∷ xs) = all-true xs
+
+pub map-same : {A : Type 0} (xs : List A) → map (λ (x : A). x) xs ≡ xs
+map-same [] = refl
+map-same (x ∷ xs) = rw (map-same xs)

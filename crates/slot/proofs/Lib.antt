@@ -1,4 +1,1 @@
-pub mod ReadLaws
-pub mod WriteLaws
-pub mod SlotLaws
-pub mod StatusLaws
+pub mod Room

@@ -1,3 +1,6 @@
 pub mod Status
+pub mod Payload
+pub mod Header
 pub mod Read
 pub mod Write
+pub mod Numbers

@@ -1,4 +1,8 @@
-// Layer 2: the slot's types, with the questions to them.
+// Layer 2: slots, a header of 128 bytes and a payload, as they are read and as they are written.
 #![tactic(auto)]
 
+pub mod encode;
+pub mod header;
+pub mod numbers;
 pub mod slot;
+pub mod validate;

@@ -29,13 +29,28 @@
 // | 104 | 24 | reserved | 0 |
 //
 // The payload starts at header_len; the rest of the slot is zero as written and never looked at.
-ghost use Rattle.std.specs.Prelude.{◌≡◌, length, eqb};
+ghost use Rattle.std.specs.Prelude.{◌≡◌, ◌==◌, length};
 ghost use Rattle.codec.specs.Place.{Part};
-ghost use Rattle.slot.specs.Status.{indexNumber, slotNumber, other, code, isValid, validInfo};
-ghost use Rattle.slot.specs.Read.{payloadStart, payloadLength, PaddingLaw, StatusRange};
+ghost use Rattle.slot.specs.Status.{index_number, slot_number, other, code, is_valid, info, error_number};
+ghost use Rattle.slot.specs.Payload.{payload_start, payload_length};
+
+// Magic bytes at offset 0 of every slot.
+pub const MAGIC: [u8; 8] = *b"SIOSLOT\0";
+// Header length written by every format.
+pub const HEADER_LEN: usize = 128;
+// On-disk format 1.
+pub const FORMAT_1: u16 = 1;
+// On-disk format 2: the paged region table, and `meta_seq` in the header.
+pub const FORMAT_2: u16 = 2;
+// Number of slots in a pair.
+pub const SLOT_COUNT: u8 = 2;
+// Smallest slot size, as a power of two: 512 bytes.
+pub const MIN_LOG2_SLOT_SIZE: u8 = 9;
+// Largest slot size, as a power of two: 64 KiB.
+pub const MAX_LOG2_SLOT_SIZE: u8 = 16;
 
 // Which slot of a pair.
-#[derive(Clone, Copy)]
+#[derive(Clone, Copy, PartialEq, Eq)]
 pub enum SlotIndex {
     A,
     B,
@@ -44,31 +59,28 @@ pub enum SlotIndex {
 impl SlotIndex {
     // The on-disk index value.
     pub fn as_u8(self) -> u8
-        ensures { result ≡ indexNumber self }
+        ensures { result ≡ index_number self }
     {
         match self {
-            SlotIndex::A => 0,
-            SlotIndex::B => 1,
+            Self::A => 0,
+            Self::B => 1,
         }
     }
 
     // Its number where 0 stands for no slot: 1 A, 2 B.
     pub fn number(self) -> u8
-        ensures { result ≡ slotNumber self }
+        ensures { result ≡ slot_number self }
     {
-        match self {
-            SlotIndex::A => 1,
-            SlotIndex::B => 2,
-        }
+        self.as_u8() + 1
     }
 
     // The other slot of the pair.
-    pub fn other(self) -> SlotIndex
+    pub fn other(self) -> Self
         ensures { result ≡ other self }
     {
         match self {
-            SlotIndex::A => SlotIndex::B,
-            SlotIndex::B => SlotIndex::A,
+            Self::A => Self::B,
+            Self::B => Self::A,
         }
     }
 }
@@ -76,225 +88,209 @@ impl SlotIndex {
 // Everything written into a slot header except the CRCs and constants.
 #[derive(Clone, Copy)]
 pub struct SlotFields {
+    // Volume identity; a slot from another volume is rejected as foreign.
     pub volume_uuid: [u8; 16],
+    // Identity of the object this pair stores.
     pub object_id: u64,
+    // Generation of this version; at least 1, one more than the previous.
     pub generation: u64,
+    // Owner generation of the process writing the slot.
     pub owner_generation: u64,
+    // Absolute byte offset the slot is written to.
     pub slot_offset: u64,
+    // Which slot of the pair this is.
     pub slot_index: SlotIndex,
+    // Slot size as a power of two.
     pub log2_slot_size: u8,
+    // Header CRC of the version this one replaces (0 for generation 1).
     pub prev_header_crc32c: u32,
+    // `FORMAT_1` or `FORMAT_2`.
     pub format_major: u16,
+    // Format 2: the store-wide number of this write (0 for an object that is not numbered). Format 1: must be 0.
     pub meta_seq: u64,
+    // May-ignore flags: 0 for a first write; a rewrite carries the winner's bits, known or not.
     pub compat_flags: u32,
+}
+
+// Why a slot could not be encoded. These are mistakes of the caller, never of the medium.
+#[derive(Clone, Copy)]
+pub enum EncodeError {
+    // `log2_slot_size` is outside 9..=16.
+    SlotSize,
+    // The output buffer length is not exactly the slot size.
+    BufferLength,
+    // The payload does not fit after the header.
+    PayloadTooLarge,
+    // Generation 0 is never written.
+    ZeroGeneration,
+    // `format_major` is not 1 or 2, or format 1 was given a `meta_seq`.
+    Format,
+}
+
+impl EncodeError {
+    // The number of the refusal.
+    pub fn number(self) -> u8
+        ensures { result ≡ error_number self }
+    {
+        match self {
+            Self::SlotSize => 1,
+            Self::BufferLength => 2,
+            Self::PayloadTooLarge => 3,
+            Self::ZeroGeneration => 4,
+            Self::Format => 5,
+        }
+    }
 }
 
 // What the reader expects of a slot at a given location.
 #[derive(Clone, Copy)]
 pub struct Expect {
+    // The volume being opened.
     pub volume_uuid: [u8; 16],
+    // The object stored in this pair.
     pub object_id: u64,
+    // Absolute byte offset the slot was read from.
     pub slot_offset: u64,
+    // Which slot of the pair was read.
     pub slot_index: SlotIndex,
+    // Configured slot size as a power of two.
     pub log2_slot_size: u8,
+    // The format the container was found to be; a slot of any other format is `SlotStatus::UnsupportedVersion`.
     pub format_major: u16,
+    // Format 2: whether this object carries `meta_seq` (the volume record and the table pages: at least 1) or not (0).
     pub numbered: bool,
 }
 
 // Facts about a slot that passed every check.
 #[derive(Clone, Copy)]
 pub struct SlotInfo {
+    // Generation of the stored version.
     pub generation: u64,
+    // Owner generation of the process that wrote it.
     pub owner_generation: u64,
+    // This slot's header CRC.
     pub header_crc32c: u32,
+    // Header CRC of the version it replaced.
     pub prev_header_crc32c: u32,
+    // Read-only compatibility flags; any bit forbids rewriting.
     pub ro_compat_flags: u32,
+    // Compatible feature flags.
     pub compat_flags: u32,
+    // Format 2: the metadata sequence number (0 in format 1).
     pub meta_seq: u64,
+    // Where the payload starts, and how many bytes it has.
     pub payload_start: u16,
     pub payload_len: u32,
 }
 
 impl SlotInfo {
     // The payload's place in the slot's own bytes. A buffer too short for it gives an empty part.
-    pub fn payload<'a>(self, slot: &'a [u8]) -> &'a [u8]
-        ensures { Part slot.entry (payloadStart self (length slot.now)) (payloadLength self (length slot.now)) result }
+    pub fn payload<'a>(&self, slot: &'a [u8]) -> &'a [u8]
+        ensures { Part slot.entry (payload_start self.now (length slot.now)) (payload_length self.now (length slot.now)) result }
     {
-        let start = self.payload_start as usize;
-        let end = start + (self.payload_len as usize);
+        let start = usize::from(self.payload_start);
+        let end = start + self.payload_len as usize;
         if slot.len() < end {
-            return &slot[0..0];
+            return &slot[..0];
         }
         &slot[start..end]
     }
 
     // Whether this version may write a newer generation over it: no read-only flag is known.
-    pub fn writable(self) -> bool
-        ensures { result ≡ eqb self.ro_compat_flags 0 }
+    pub fn writable(&self) -> bool
+        ensures { result ≡ (self.now.ro_compat_flags == 0) }
     {
         self.ro_compat_flags == 0
     }
 }
 
-// Result of validating one slot. ReadError is the host's.
+// Result of validating one slot.
 #[derive(Clone, Copy)]
 pub enum SlotStatus {
+    // The device reported an error reading the slot (set by the host).
     ReadError,
+    // The buffer is not the configured slot size.
     BadLength,
+    // The header is all zero: never written.
     Blank,
+    // The magic bytes are wrong: not a slot, or overwritten.
     BadMagic,
+    // The header CRC does not match: torn or corrupted header.
     BadHeaderCrc,
+    // Written by a different on-disk format version; never read or overwritten.
     UnsupportedVersion { major: u16 },
+    // Uses incompatible features this version does not understand.
     Incompatible { flags: u32 },
+    // The CRC is valid but a field holds an impossible value.
     Malformed,
+    // The slot belongs to another volume.
     Foreign,
+    // The slot belongs to another object of this volume.
     WrongObject,
+    // The slot records a different location or slot index: a misdirected write.
     Misplaced,
+    // The payload CRC does not match: torn or corrupted payload.
     BadPayloadCrc,
+    // Every check passed.
     Valid(SlotInfo),
 }
 
 impl SlotStatus {
     // The number of the status.
-    pub fn code(self) -> u8
-        ensures { result ≡ code self }
+    pub fn code(&self) -> u8
+        ensures { result ≡ code self.now }
     {
         match self {
-            SlotStatus::ReadError => 0,
-            SlotStatus::BadLength => 1,
-            SlotStatus::Blank => 2,
-            SlotStatus::BadMagic => 3,
-            SlotStatus::BadHeaderCrc => 4,
-            SlotStatus::UnsupportedVersion { major: _ } => 5,
-            SlotStatus::Incompatible { flags: _ } => 6,
-            SlotStatus::Malformed => 7,
-            SlotStatus::Foreign => 8,
-            SlotStatus::WrongObject => 9,
-            SlotStatus::Misplaced => 10,
-            SlotStatus::BadPayloadCrc => 11,
-            SlotStatus::Valid(_) => 12,
+            Self::ReadError => 0,
+            Self::BadLength => 1,
+            Self::Blank => 2,
+            Self::BadMagic => 3,
+            Self::BadHeaderCrc => 4,
+            Self::UnsupportedVersion { .. } => 5,
+            Self::Incompatible { .. } => 6,
+            Self::Malformed => 7,
+            Self::Foreign => 8,
+            Self::WrongObject => 9,
+            Self::Misplaced => 10,
+            Self::BadPayloadCrc => 11,
+            Self::Valid(_) => 12,
         }
     }
 
     // What is known of a valid slot.
-    pub fn info(self) -> ValidInfo
-        ensures { result ≡ validInfo self }
+    pub fn info(&self) -> Option<SlotInfo>
+        ensures { result ≡ info self.now }
     {
         match self {
-            SlotStatus::ReadError => ValidInfo::Nothing,
-            SlotStatus::BadLength => ValidInfo::Nothing,
-            SlotStatus::Blank => ValidInfo::Nothing,
-            SlotStatus::BadMagic => ValidInfo::Nothing,
-            SlotStatus::BadHeaderCrc => ValidInfo::Nothing,
-            SlotStatus::UnsupportedVersion { major: _ } => ValidInfo::Nothing,
-            SlotStatus::Incompatible { flags: _ } => ValidInfo::Nothing,
-            SlotStatus::Malformed => ValidInfo::Nothing,
-            SlotStatus::Foreign => ValidInfo::Nothing,
-            SlotStatus::WrongObject => ValidInfo::Nothing,
-            SlotStatus::Misplaced => ValidInfo::Nothing,
-            SlotStatus::BadPayloadCrc => ValidInfo::Nothing,
-            SlotStatus::Valid(info) => ValidInfo::Info(info),
+            Self::Valid(info) => Some(*info),
+            _ => None,
         }
     }
 
     // Whether every check passed.
-    pub fn is_valid(self) -> bool
-        ensures { result ≡ isValid self }
+    pub fn is_valid(&self) -> bool
+        ensures { result ≡ is_valid self.now }
     {
-        match self {
-            SlotStatus::ReadError => false,
-            SlotStatus::BadLength => false,
-            SlotStatus::Blank => false,
-            SlotStatus::BadMagic => false,
-            SlotStatus::BadHeaderCrc => false,
-            SlotStatus::UnsupportedVersion { major: _ } => false,
-            SlotStatus::Incompatible { flags: _ } => false,
-            SlotStatus::Malformed => false,
-            SlotStatus::Foreign => false,
-            SlotStatus::WrongObject => false,
-            SlotStatus::Misplaced => false,
-            SlotStatus::BadPayloadCrc => false,
-            SlotStatus::Valid(_) => true,
-        }
+        matches!(self, Self::Valid(_))
     }
 }
 
-// The facts about a slot, if it is valid.
+// What a slot's header shows, whether or not the slot is valid.
 #[derive(Clone, Copy)]
-pub enum ValidInfo {
-    Info(SlotInfo),
-    Nothing,
-}
-
-// What a slot's header shows, whether or not the slot is valid: nothing, its stored checksum, or the fields of a numbered slot too.
-#[derive(Clone, Copy)]
-pub enum HeaderFacts {
-    Nothing,
-    Stored(u32),
-    Numbered(u32, NumberedHeader),
+pub struct HeaderFacts {
+    // The header's CRC as stored (it may not verify): compared with the winner's `prev_header_crc32c` to recognise a damaged predecessor.
+    pub stored_header_crc32c: u32,
+    // Present when the header passes every check before the payload's CRC: the slot is `Valid` or `BadPayloadCrc`.
+    pub numbered: Option<NumberedHeader>,
 }
 
 // The header fields of a numbered slot.
 #[derive(Clone, Copy)]
 pub struct NumberedHeader {
+    // Generation of the version the slot holds or was meant to hold.
     pub generation: u64,
+    // Its metadata sequence number (format 2; 0 in format 1).
     pub meta_seq: u64,
+    // The header CRC of the version it replaced.
     pub prev_header_crc32c: u32,
 }
-
-// The numbers of a header as stored, nothing of them checked.
-#[derive(Clone, Copy)]
-pub struct RawHeader {
-    pub header_crc32c: u32,
-    pub header_len: u16,
-    pub format_major: u16,
-    pub incompat_flags: u32,
-    pub ro_compat_flags: u32,
-    pub compat_flags: u32,
-    pub payload_crc32c: u32,
-    pub object_id: u64,
-    pub generation: u64,
-    pub slot_offset: u64,
-    pub payload_len: u32,
-    pub slot_index: u8,
-    pub slot_count: u8,
-    pub log2_slot_size: u8,
-    pub reserved0: u8,
-    pub prev_header_crc32c: u32,
-    pub reserved1: u32,
-    pub owner_generation: u64,
-    pub meta_seq: u64,
-}
-
-// The header, or that there are fewer than its 128 bytes.
-#[derive(Clone, Copy)]
-pub enum HeaderRead {
-    Header(RawHeader),
-    Truncated,
-}
-
-// A check of a header: passed, or the first status that fails.
-#[derive(Clone, Copy)]
-pub enum Check {
-    Pass,
-    Fail(SlotStatus),
-}
-
-// A header that passed every check up to the payload CRC: what is valid of it, and the payload's CRC as stored.
-#[derive(Clone, Copy)]
-pub enum Parsed {
-    Passed(SlotInfo, u32),
-    Failed(SlotStatus),
-}
-
-// Does nothing: its contract is that the bytes behind the payload do not count.
-#[tactic(auto, using(crate::proofs::SlotLaws::padding_law))]
-pub fn padding_law()
-    ensures { PaddingLaw }
-{}
-
-// Does nothing: its contract is that a slot's status is 1 to 12.
-#[tactic(auto, using(crate::proofs::StatusLaws::status_range))]
-pub fn status_law()
-    ensures { StatusRange }
-{}

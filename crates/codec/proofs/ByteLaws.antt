@@ -1,0 +1,47 @@
+-- Lists of bytes: parts and joins of bytes are bytes, a number of a width is below its power, and lists that agree in front agree in what is
+-- read there.
+use Rattle.std.proofs.Common.{◌≡◌, sym, ap, ◌∙◌, List, [], ◌∷◌, ◌++◌, ℕ, zero, suc, ◌+◌, ◌-◌, ◌≤◌, zero-add, suc-add, le_of_eq, lit<, length, take, drop, replicate, length-drop, take-take, get_or-drop, take_all}
+use Rattle.std.proofs.Math.Seq.{take-nil}
+use Rattle.std.specs.Int.{Width, byte_len, from_le_bytes}
+use Rattle.codec.specs.Bytes.{AllBytes, le}
+
+pub take-bytes : (n : ℕ) (s : List ℕ) → AllBytes s → AllBytes (take n s)
+take-bytes zero s small i = lit< tt
+take-bytes (suc n) [] small i = lit< tt
+take-bytes (suc n) (x ∷ s) small zero = small 0
+take-bytes (suc n) (x ∷ s) small (suc i) = take-bytes n s (λ k. small (suc k)) i
+
+pub drop-bytes : (n : ℕ) (s : List ℕ) → AllBytes s → AllBytes (drop n s)
+drop-bytes n s small i = rw get_or-drop (small (n + i))
+
+pub append-bytes : (s t : List ℕ) → AllBytes s → AllBytes t → AllBytes (s ++ t)
+append-bytes [] t small rest i = rest i
+append-bytes (x ∷ s) t small rest zero = small 0
+append-bytes (x ∷ s) t small rest (suc i) = append-bytes s t (λ k. small (suc k)) rest i
+
+pub zero-bytes : (n : ℕ) → AllBytes (replicate n 0)
+zero-bytes zero i = lit< tt
+zero-bytes (suc n) zero = lit< tt
+zero-bytes (suc n) (suc i) = zero-bytes n i
+
+-- What `&s[k..]` holds.
+pub part-rest : (k : ℕ) (s : List ℕ) → take (length s - k) (drop k s) ≡ drop k s
+part-rest k s = take_all (length s - k) (drop k s) (le_of_eq (length-drop k s))
+
+-- A run by the front of the list.
+run-front : (k n : ℕ) (s : List ℕ) → take n (drop k s) ≡ drop k (take (k + n) s)
+run-front zero n s = ap (λ (m : ℕ). take m s) (sym (zero-add n))
+run-front (suc k) n [] = take-nil n ∙ sym (ap (drop (suc k)) (take-nil (suc k + n)))
+run-front (suc k) n (x ∷ s) = run-front k n s ∙ ap (λ (m : ℕ). drop (suc k) (take m (x ∷ s))) (sym (suc-add k n))
+
+-- Lists that agree in their first m bytes agree in what is read of them there.
+module _ (m : ℕ) (s t : List ℕ) (agree : take m s ≡ take m t) where
+  pub agree-front : (n : ℕ) → n ≤ m → take n s ≡ take n t
+  agree-front n within = sym (take-take n m s within) ∙ ap (take n) agree ∙ take-take n m t within
+
+  pub agree-run : (k n : ℕ) → k + n ≤ m → take n (drop k s) ≡ take n (drop k t)
+  agree-run k n within = run-front k n s ∙ ap (drop k) (agree-front (k + n) within) ∙ sym (run-front k n t)
+
+  pub agree-number : (w : Width) (i : ℕ) → i + byte_len w ≤ m → le w s i ≡ le w t i
+  unfolding le
+  agree-number w i within = ap (from_le_bytes w) (agree-run i (byte_len w) within)

@@ -1,2 +1,0 @@
-pub mod EncodeLaws
-pub mod RoundTrip

@@ -1,0 +1,159 @@
+-- The first pass as the code makes it is the definition's: a candidate's number is the one that its slot counts for, so the code's rule and
+-- the definition's agree on every pair; and the tally kept from pair to pair is that of the row.
+use Rattle.std.proofs.Common.{◌≡◌, refl, ◌∙◌, subst, Bool, true, false, cond, ◌||◌, List, [], ◌∷◌, ℕ, suc, ◌+◌, ◌*◌, zero-add, arith, eqb, ltb, leb, Option, Some, None}
+use Rattle.slot.specs.declared.slot.SlotIndex.{SlotIndex}
+use Rattle.slot.specs.Status.{other}
+use Rattle.judge.specs.declared.pairs.Version.{Version}
+use Rattle.judge.specs.declared.pairs.Shown.{Shown}
+use Rattle.judge.specs.declared.pairs.Pair.{Pair}
+use Rattle.judge.specs.declared.pairs.Opposite.{Opposite}
+use Rattle.judge.specs.declared.pairs.PairCase.{PairCase}
+use Rattle.judge.specs.declared.numbers.Maxima.{Maxima}
+use Rattle.judge.specs.declared.verdict.PairVerdict.{PairVerdict}
+use Rattle.judge.specs.declared.verdict.Tally.{Tally}
+use Rattle.judge.specs.Pairs.{numbered, opposite, is_unsupported, valid, winner, pair_case}
+use Rattle.judge.specs.Numbers.{slots, qualifies}
+use Rattle.judge.specs.Maxima.{no_maxima, note_all, qualifies_by, by_maxima}
+use Rattle.judge.specs.Verdict.{by_index, slot_verdict, pair_verdict, in_flight}
+use Rattle.judge.specs.Judge.{verdicts_from, first_verdicts, candidates, any_candidate, any_trouble, any_refused, first_tally}
+use Rattle.judge.specs.Passes.{verdicts_by, no_tally, tallied, tallies}
+use Rattle.judge.proofs.NumberLaws.{At, qualifies-same}
+
+-- ---- a candidate's number is the one that its slot counts for
+
+opposite-number : (index : SlotIndex) (w : Version) (s : Shown) (v : ℕ) → opposite index w s ≡ Opposite.Candidate (Some v) → numbered s ≡ Some v
+opposite-number index w (Shown.Valid o) v is = cc
+opposite-number index w (Shown.BadPayload o) v is =
+    go (ltb o.generation w.generation) (eqb o.generation (w.generation + 1)) (eqb o.prev_header_crc32c w.header_crc32c) is
+  where
+    go : (older next linked : Bool)
+        → cond older Opposite.OlderDamaged (cond next (cond linked (Opposite.Candidate (Some o.meta_seq)) Opposite.Damage) Opposite.Damage)
+        ≡ Opposite.Candidate (Some v)
+        → Some o.meta_seq ≡ Some v
+    go true next linked is = cc
+    go false true true is = cc
+    go false true false is = cc
+    go false false linked is = cc
+opposite-number index w (Shown.BadHeader stored) v is = go (leb 2 w.generation) (eqb stored w.prev_header_crc32c) is
+  where
+    go : (second linked : Bool)
+        → cond second (cond linked Opposite.OlderDamaged (Opposite.Candidate None)) (Opposite.Candidate None) ≡ Opposite.Candidate (Some v)
+        → ◌≡◌ {A = Option ℕ} None (Some v)
+    go true true is = cc
+    go true false is = cc
+    go false linked is = cc
+opposite-number SlotIndex.A w Shown.Blank v is = go (eqb w.generation 1) is
+  where
+    go : (one : Bool) → cond one Opposite.Nothing Opposite.Damage ≡ Opposite.Candidate (Some v) → ◌≡◌ {A = Option ℕ} None (Some v)
+    go true is = cc
+    go false is = cc
+opposite-number SlotIndex.B w Shown.Blank v is = cc
+opposite-number index w Shown.Unsupported v is = cc
+opposite-number index w Shown.Other v is = cc
+
+-- ---- rules that agree on the numbers of a pair's slots give it the same verdict
+
+module _ (q r : SlotIndex → Option ℕ → Bool) (p : Pair)
+    (unread : (index : SlotIndex) → q index None ≡ r index None)
+    (agree : (index : SlotIndex) (v : ℕ) → numbered (by_index index p.a p.b) ≡ Some v → q index (Some v) ≡ r index (Some v)) where
+  agree_on : (index won : SlotIndex) (w : Version) (seq : Option ℕ)
+      → opposite won w (by_index index p.a p.b) ≡ Opposite.Candidate seq → q index seq ≡ r index seq
+  agree_on index won w None is = unread index
+  agree_on index won w (Some v) is = agree index v (opposite-number won w (by_index index p.a p.b) v is)
+
+  beside : (won : SlotIndex) (w : Version) (o : Opposite) → opposite won w (by_index (other won) p.a p.b) ≡ o
+      → slot_verdict (q (other won)) o ≡ slot_verdict (r (other won)) o
+  beside won w Opposite.Nothing is = refl
+  beside won w Opposite.OlderDamaged is = refl
+  beside won w (Opposite.Candidate seq) is = simp (agree_on (other won) won w seq is)
+  beside won w Opposite.Damage is = refl
+
+  verdict-same : pair_verdict q (pair_case p) ≡ pair_verdict r (pair_case p)
+  verdict-same = go (is_unsupported p.a || is_unsupported p.b) (valid p.a) (valid p.b)
+    where
+      two : (x y : Bool)
+          → pair_verdict q (cond x PairCase.Lost (cond y (PairCase.Won SlotIndex.A Opposite.Nothing) (PairCase.Won SlotIndex.B Opposite.Nothing)))
+          ≡ pair_verdict r (cond x PairCase.Lost (cond y (PairCase.Won SlotIndex.A Opposite.Nothing) (PairCase.Won SlotIndex.B Opposite.Nothing)))
+      two true y = refl
+      two false true = refl
+      two false false = refl
+
+      go : (none : Bool) (a b : Option Version)
+          → pair_verdict q (cond none PairCase.Refused (winner p a b)) ≡ pair_verdict r (cond none PairCase.Refused (winner p a b))
+      go true a b = refl
+      go false None None = refl
+      go false (Some a) None = simp (beside SlotIndex.A a (opposite SlotIndex.A a p.b) refl)
+      go false None (Some b) = simp (beside SlotIndex.B b (opposite SlotIndex.B b p.a) refl)
+      go false (Some a) (Some b) = two (eqb a.generation b.generation) (ltb b.generation a.generation)
+
+verdicts-from : (all : List Shown) (i : ℕ) (ps : List Pair)
+    → ((j : ℕ) (s : Shown) → At j (slots ps) s → At (2 * i + j) all s)
+    → verdicts_by (note_all no_maxima all) ps ≡ verdicts_from all i ps
+verdicts-from all i [] within = refl
+verdicts-from all i (p ∷ ps) within =
+    let here = verdict-same (by_maxima (note_all no_maxima all)) (λ index. qualifies all (by_index index (2 * i) (2 * i + 1))) p (λ index. refl) agree in
+    let rest = verdicts-from all (suc i) ps (λ j s at. subst (λ (k : ℕ). At k all s) (next i j) (within (suc (suc j)) s (At.there (At.there at)))) in
+    rw (here, rest)
+  where
+    next : (i j : ℕ) → 2 * i + suc (suc j) ≡ 2 * suc i + j
+    next i j = omega arith
+
+    first : (i : ℕ) → 2 * i + 0 ≡ 2 * i
+    first i = omega arith
+
+    agree : (index : SlotIndex) (v : ℕ) → numbered (by_index index p.a p.b) ≡ Some v
+        → qualifies_by (note_all no_maxima all) (Some v) ≡ qualifies all (by_index index (2 * i) (2 * i + 1)) (Some v)
+    agree SlotIndex.A v own = qualifies-same v (2 * i) all p.a (rw (first i) at (within 0 p.a At.here)) own
+    agree SlotIndex.B v own = qualifies-same v (2 * i + 1) all p.b (within 1 p.b (At.there At.here)) own
+
+pub verdicts-same : (ps : List Pair) → verdicts_by (note_all no_maxima (slots ps)) ps ≡ first_verdicts ps
+unfolding first_verdicts
+verdicts-same ps = verdicts-from (slots ps) 0 ps (λ j s at. subst (λ (k : ℕ). At k (slots ps) s) (from_first j) at)
+  where
+    from_first : (j : ℕ) → j ≡ 2 * 0 + j
+    from_first j = omega arith
+
+-- ---- its tally
+
+or-or : (x y z : Bool) → (x || y) || z ≡ x || (y || z)
+or-or true y z = refl
+or-or false y z = refl
+
+or-none : (x : Bool) → x ≡ x || false
+or-none true = refl
+or-none false = refl
+
+count-first : (n : ℕ) (v : PairVerdict) (vs : List PairVerdict) → cond (in_flight v) (n + 1) n + candidates vs ≡ n + candidates (v ∷ vs)
+count-first n v vs = go (in_flight v)
+  where
+    go : (flight : Bool) → cond flight (n + 1) n + candidates vs ≡ n + cond flight (candidates vs + 1) (candidates vs)
+    go true = omega arith
+    go false = refl
+
+tally-at : (t : Tally) (n : ℕ) (page trouble none : Bool) → t.candidates ≡ n → t.page_had_candidate ≡ page → t.troubled ≡ trouble
+    → t.refused ≡ none → t ≡ record { candidates = n; page_had_candidate = page; troubled = trouble; refused = none }
+tally-at t n page trouble none n-is page-is trouble-is none_is = rw (← n-is, ← page-is, ← trouble-is, ← none_is)
+
+tallies-from : (m : Maxima) (t : Tally) (ps : List Pair)
+    → tallies m false t ps
+    ≡ record {
+      candidates = t.candidates + candidates (verdicts_by m ps);
+      page_had_candidate = t.page_had_candidate || any_candidate ps;
+      troubled = t.troubled || any_trouble (verdicts_by m ps);
+      refused = t.refused || any_refused (verdicts_by m ps);
+    }
+tallies-from m t [] =
+    tally-at t (t.candidates + 0) (t.page_had_candidate || false) (t.troubled || false) (t.refused || false) (omega arith)
+    (or-none t.page_had_candidate)
+    (or-none t.troubled)
+    (or-none t.refused)
+tallies-from m t (p ∷ ps) =
+    let v = pair_verdict (by_maxima m) (pair_case p) in
+    tallies-from m (tallied t false (pair_case p) v) ps ∙ simp (or-or, count-first)
+
+pub tally-same : (m : Maxima) (ps : List Pair) → tallies m true no_tally ps ≡ first_tally ps (verdicts_by m ps)
+unfolding first_tally
+tally-same m [] = refl
+tally-same m (p ∷ ps) =
+    let v = pair_verdict (by_maxima m) (pair_case p) in
+    tallies-from m (tallied no_tally true (pair_case p) v) ps ∙ rw (count-first, zero-add)

@@ -1,0 +1,98 @@
+-- A slot's part of a frame (docs/FORMAT.md, "Frames"): what it is filled with, its bytes, what bytes stand for, and what it shows the judge.
+use Rattle.std.specs.Prelude.{Bool, ◌&&◌, ◌||◌, List, ◌∷◌, ◌++◌, ℕ, ◌+◌, ◌==◌, nat_le, if◌then◌else◌, get_or, Option, Some, None}
+use Rattle.std.specs.Int.{w32, w64, to_le_bytes}
+use Rattle.codec.specs.Bytes.{le32, le64}
+use Rattle.slot.specs.Status.{code, info}
+use Rattle.slot.specs.declared.slot.SlotInfo.{SlotInfo}
+use Rattle.slot.specs.declared.slot.SlotStatus.{SlotStatus}
+use Rattle.slot.specs.declared.slot.NumberedHeader.{NumberedHeader}
+use Rattle.slot.specs.declared.slot.HeaderFacts.{HeaderFacts}
+use Rattle.judge.specs.declared.pairs.Version.{Version}
+use Rattle.judge.specs.declared.pairs.Shown.{Shown}
+use Rattle.judge.specs.declared.part.SlotPart.{SlotPart}
+
+-- The width of a slot's part.
+abbrev pub part_width : ℕ
+part_width = 26
+
+-- ---- what it is filled with: under Valid from the slot's info, else from the facts
+
+abbrev pub version_of_info : SlotInfo → Version
+version_of_info i =
+    record {
+      generation = i.generation;
+      meta_seq = i.meta_seq;
+      header_crc32c = i.header_crc32c;
+      prev_header_crc32c = i.prev_header_crc32c;
+    }
+
+abbrev pub version_of_header : ℕ → Option NumberedHeader → Version
+version_of_header stored None = record { generation = 0; meta_seq = 0; header_crc32c = stored; prev_header_crc32c = 0 }
+version_of_header stored (Some n) =
+    record {
+      generation = n.generation;
+      meta_seq = n.meta_seq;
+      header_crc32c = stored;
+      prev_header_crc32c = n.prev_header_crc32c;
+    }
+
+abbrev pub version_of_facts : Option HeaderFacts → Version
+version_of_facts None = version_of_header 0 None
+version_of_facts (Some f) = version_of_header f.stored_header_crc32c f.numbered
+
+abbrev pub version_by : Option SlotInfo → Option HeaderFacts → Version
+version_by (Some i) f = version_of_info i
+version_by None f = version_of_facts f
+
+-- Facts: 0 none, 1 stored checksum, 2 numbered as well.
+abbrev pub header_number : Option NumberedHeader → ℕ
+header_number None = 1
+header_number (Some n) = 2
+
+abbrev pub facts_number : Option HeaderFacts → ℕ
+facts_number None = 0
+facts_number (Some f) = header_number f.numbered
+
+abbrev pub part_of : SlotStatus → Option HeaderFacts → SlotPart
+part_of status f = record { code = code status; facts = facts_number f; version = version_by (info status) f }
+
+-- ---- its bytes, and what bytes stand for
+
+unfoldable pub part_bytes : SlotPart → List ℕ
+part_bytes p =
+    p.code
+    ∷ p.facts
+    ∷ to_le_bytes w64 p.version.generation
+    ++ to_le_bytes w64 p.version.meta_seq
+    ++ to_le_bytes w32 p.version.header_crc32c
+    ++ to_le_bytes w32 p.version.prev_header_crc32c
+
+abbrev pub part_at : List ℕ → ℕ → SlotPart
+part_at s at =
+    record {
+      code = get_or s at 0;
+      facts = get_or s (at + 1) 0;
+      version =
+          record {
+            generation = le64 s (at + 2);
+            meta_seq = le64 s (at + 10);
+            header_crc32c = le32 s (at + 18);
+            prev_header_crc32c = le32 s (at + 22);
+          };
+    }
+
+-- ---- what it shows the judge
+
+-- The status is at most 12 and the facts are at most 2.
+abbrev pub is_in_range : SlotPart → Bool
+is_in_range p = nat_le p.code 12 && nat_le p.facts 2
+
+-- Statuses: 2 Blank, 4 BadHeaderCrc, 5 UnsupportedVersion, 6 Incompatible, 11 BadPayloadCrc, 12 Valid.
+abbrev pub part_shown : SlotPart → Shown
+part_shown p =
+    if p.code == 12 then Shown.Valid p.version
+    else if (p.code == 11) && (p.facts == 2) then Shown.BadPayload p.version
+    else if (p.code == 4) && nat_le 1 p.facts then Shown.BadHeader p.version.header_crc32c
+    else if p.code == 2 then Shown.Blank
+    else if (p.code == 5) || (p.code == 6) then Shown.Unsupported
+    else Shown.Other

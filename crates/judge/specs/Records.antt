@@ -1,0 +1,49 @@
+-- The judge over a row of pairs as they were read (docs/FORMAT.md, "The store verdict"; judge.rs).
+use Rattle.std.specs.Prelude.{Bool, true, List, ℕ, ◌==◌, length, map, Option, Some, None, Result}
+use Rattle.slot.specs.declared.slot.SlotStatus.{SlotStatus}
+use Rattle.slot.specs.declared.slot.HeaderFacts.{HeaderFacts}
+use Rattle.slot.specs.declared.slot.NumberedHeader.{NumberedHeader}
+use Rattle.judge.specs.declared.pairs.Shown.{Shown}
+use Rattle.judge.specs.declared.pairs.Pair.{Pair}
+use Rattle.judge.specs.declared.verdict.PairVerdict.{PairVerdict}
+use Rattle.judge.specs.declared.verdict.Judgement.{Judgement}
+use Rattle.judge.specs.declared.verdict.JudgeError.{JudgeError}
+use Rattle.judge.specs.declared.records.SlotRead.{SlotRead}
+use Rattle.judge.specs.declared.records.PairRead.{PairRead}
+use Rattle.judge.specs.Part.{version_of_info, version_of_header}
+use Rattle.judge.specs.Judge.{verdicts, judgement, error, unless, left}
+
+-- ---- what the judge is told of a slot, and of a pair
+
+abbrev pub payload_shown : ℕ → Option NumberedHeader → Shown
+payload_shown stored None = Shown.Other
+payload_shown stored (Some n) = Shown.BadPayload (version_of_header stored (Some n))
+
+abbrev pub shown_of : SlotStatus → Option HeaderFacts → Shown
+shown_of (SlotStatus.Valid i) f = Shown.Valid (version_of_info i)
+shown_of SlotStatus.BadPayloadCrc (Some f) = payload_shown f.stored_header_crc32c f.numbered
+shown_of SlotStatus.BadHeaderCrc (Some f) = Shown.BadHeader f.stored_header_crc32c
+shown_of SlotStatus.Blank f = Shown.Blank
+shown_of (SlotStatus.UnsupportedVersion major) f = Shown.Unsupported
+shown_of (SlotStatus.Incompatible flags) f = Shown.Unsupported
+shown_of _ _ = Shown.Other
+
+abbrev pub shown_read : SlotRead → Shown
+shown_read s = shown_of s.status s.facts
+
+abbrev pub pair_read : PairRead → Pair
+pair_read p = record { a = shown_read p.a; b = shown_read p.b }
+
+-- ---- the judge
+
+-- The error, where so many verdicts are lent.
+abbrev pub records_error : List PairRead → ℕ → Option JudgeError
+records_error ps room = error (length ps == 0) true (room == length ps) true
+
+-- What it answers,
+unfoldable pub judge_records : List PairRead → Bool → ℕ → Result Judgement JudgeError
+judge_records ps clean room = unless (records_error ps room) (judgement (map pair_read ps) clean)
+
+-- and what it leaves in the lent verdicts.
+unfoldable pub records_left : List PairRead → Bool → List PairVerdict → List PairVerdict
+records_left ps clean out = left (records_error ps (length out)) (verdicts (map pair_read ps) clean) out

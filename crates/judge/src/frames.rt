@@ -1,0 +1,128 @@
+// The judge over frames in bytes, as a host hands them over.
+//
+// A pair's frame has 52 bytes: the part of slot A, then that of slot B (part).
+//
+// | Verdict, 4 bytes a pair | Field |
+// |---|---|
+// | 0 | standing: 0 Confirmed, 1 Unconfirmed, 2 Lost, 3 Refused |
+// | 1 | winner: 0 none, 1 A, 2 B |
+// | 2, 3 | A, B: 0 Winner, 1 Nothing, 2 OlderDamaged, 3 InFlight, 4 Damage |
+ghost use Rattle.std.specs.Prelude.{◌≡◌, ◌*◌, ◌==◌, length};
+ghost use Rattle.judge.specs.Frames.{verdict_width, verdict_bytes, verdict_from, verdict_cells, pair_from, pair_in_range, judge_frames, frames_left};
+ghost use Rattle.judge.specs.ReadBack.{reads_back, cells_fit};
+
+use crate::pairs::Pair;
+use crate::part::{PART, SlotPart};
+use crate::row::{ReadPair, Verdicts};
+use crate::verdict::{
+    JudgeError, Judgement, PairVerdict, SlotVerdict, Standing, choice_from, choice_number,
+};
+
+/// The width of a pair's frame,
+pub const FRAME: usize = 2 * PART;
+
+/// and of its verdict.
+pub const VERDICT: usize = 4;
+
+impl PairVerdict {
+    // The verdict in bytes,
+    pub fn bytes(self) -> [u8; VERDICT]
+        ensures { result ≡ verdict_bytes self }
+    {
+        [
+            self.standing.as_u8(),
+            choice_number(self.winner),
+            self.a.as_u8(),
+            self.b.as_u8(),
+        ]
+    }
+
+    // and what bytes stand for.
+    pub fn from_bytes(bytes: [u8; VERDICT]) -> Self
+        ensures { result ≡ verdict_from bytes }
+    {
+        PairVerdict {
+            standing: Standing::from_u8(bytes[0]),
+            winner: choice_from(bytes[1]),
+            a: SlotVerdict::from_u8(bytes[2]),
+            b: SlotVerdict::from_u8(bytes[3]),
+        }
+    }
+}
+
+impl ReadPair for [u8; FRAME] {
+    ghost shown = { pair_from };
+
+    ghost within = { pair_in_range };
+
+    fn is_in_range(&self) -> bool {
+        SlotPart::read(self, 0).is_in_range() && SlotPart::read(self, PART).is_in_range()
+    }
+
+    #[inline(always)]
+    fn pair(&self) -> Pair {
+        Pair {
+            a: SlotPart::read(self, 0).shown(),
+            b: SlotPart::read(self, PART).shown(),
+        }
+    }
+}
+
+// Verdicts as bytes.
+struct VerdictBytes<'a>(&'a mut [u8]);
+
+impl Verdicts for VerdictBytes<'_> {
+    type Cell = [u8; VERDICT];
+
+    ghost cell = { verdict_bytes };
+
+    ghost read = { verdict_from };
+
+    ghost cells = { λ s. verdict_cells s.0.now };
+
+    ghost fitting = { λ s n. length s.0.now == n * verdict_width };
+
+    ghost place = { λ s. s.0.ghost_name };
+
+    fn fits(&self, pairs: usize) -> bool {
+        self.0.len() % VERDICT == 0 && self.0.len() / VERDICT == pairs
+    }
+
+    fn verdict(&self, i: usize) -> PairVerdict {
+        let at = i * VERDICT;
+        PairVerdict::from_bytes([
+            self.0[at],
+            self.0[at + 1],
+            self.0[at + 2],
+            self.0[at + 3],
+        ])
+    }
+
+    fn put(&mut self, i: usize, v: PairVerdict) {
+        let at = i * VERDICT;
+        let bytes = v.bytes();
+        self.0[at] = bytes[0];
+        self.0[at + 1] = bytes[1];
+        self.0[at + 2] = bytes[2];
+        self.0[at + 3] = bytes[3];
+    }
+
+    ghost fitted = { λ s n. cells_fit s.0.now n };
+
+    ghost reads_back = { reads_back };
+}
+
+// Judges every pair and writes its verdict. `clean` is the volume winner's clean mark, 0 or 1. Nothing is written where there is an error.
+pub fn judge(frames: &[u8], clean: u8, out: &mut [u8]) -> Result<Judgement, JudgeError>
+    ensures value { result ≡ judge_frames frames.now clean (length out.old) }
+    ensures out_after { out.new ≡ frames_left frames.now clean out.old }
+{
+    let (pairs, rest) = frames.as_chunks::<FRAME>();
+    if !rest.is_empty() {
+        return Err(JudgeError::OutOfRange);
+    }
+    let mut out = VerdictBytes(out);
+    let answer = crate::row::judge(pairs, clean, &mut out);
+    let VerdictBytes(_) = out;
+    answer
+}

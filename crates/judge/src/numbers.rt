@@ -1,0 +1,48 @@
+// The highest numbers of a store, kept as its slots are gone through, and the rule that a candidate's number is held to: one more than the
+// highest of all other numbered slots.
+ghost use Rattle.std.specs.Prelude.{◌≡◌};
+ghost use Rattle.judge.specs.Maxima.{noted, qualifies_by};
+
+use crate::pairs::{Pair, Shown};
+
+// The two highest numbers of the slots gone through, the same one twice where two slots hold it; 0 where there is none.
+#[derive(Clone, Copy)]
+pub struct Maxima {
+    pub first: u64,
+    pub second: u64,
+}
+
+impl Maxima {
+    fn note(&mut self, slot: Shown)
+        ensures { self.new ≡ noted self.old slot }
+    {
+        if let Some(v) = slot.numbered() {
+            self.second = self.second.max(self.first.min(v));
+            self.first = self.first.max(v);
+        }
+    }
+
+    pub fn note_pair(&mut self, pair: Pair)
+        ensures { self.new ≡ noted (noted self.old pair.a) pair.b }
+    {
+        self.note(pair.a);
+        self.note(pair.b);
+    }
+
+    // Whether a candidate of this number is one above all other slots', as far as its number is known.
+    pub fn qualifies(self, seq: Option<u64>) -> bool
+        ensures { result ≡ qualifies_by self seq }
+    {
+        match seq {
+            None => true,
+            Some(v) => {
+                let others = if v == self.first {
+                    self.second
+                } else {
+                    self.first
+                };
+                v > others && v - others == 1
+            }
+        }
+    }
+}

@@ -1,0 +1,157 @@
+// A slot's part of a frame: what a host hands to the judge of one slot, and what the judge is told by it.
+//
+// | Offset | Size | Field |
+// |---|---|---|
+// | 0 | 1 | status, 0 to 12 |
+// | 1 | 1 | facts: 0 none, 1 the stored checksum, 2 numbered as well |
+// | 2 | 8 | generation |
+// | 10 | 8 | number |
+// | 18 | 4 | own checksum |
+// | 22 | 4 | previous checksum |
+//
+// Fields come from the Valid info under status 12, else from the facts; those not given are zero.
+ghost use Rattle.std.specs.Prelude.{◌≡◌, ◌+◌, ◌≤◌, length};
+ghost use Rattle.codec.specs.Bytes.{le32, le64};
+ghost use Rattle.judge.specs.Part.{part_width, version_of_info, version_of_facts, facts_number, part_of, part_bytes, part_at, part_shown, is_in_range};
+
+use crate::pairs::{Shown, Version};
+use slot::slot::{HeaderFacts, SlotInfo, SlotStatus};
+
+/// The width of a slot's part.
+pub const PART: usize = 26;
+
+// What a frame says of one slot.
+#[derive(Clone, Copy)]
+pub struct SlotPart {
+    pub code: u8,
+    pub facts: u8,
+    pub version: Version,
+}
+
+impl Version {
+    // Of a valid slot.
+    pub fn of_info(info: SlotInfo) -> Self
+        ensures { result ≡ version_of_info info }
+    {
+        Version {
+            generation: info.generation,
+            meta_seq: info.meta_seq,
+            header_crc32c: info.header_crc32c,
+            prev_header_crc32c: info.prev_header_crc32c,
+        }
+    }
+
+    // As far as a header shows it.
+    pub fn of_facts(facts: Option<HeaderFacts>) -> Self
+        ensures { result ≡ version_of_facts facts }
+    {
+        let mut version = Version {
+            generation: 0,
+            meta_seq: 0,
+            header_crc32c: 0,
+            prev_header_crc32c: 0,
+        };
+        if let Some(facts) = facts {
+            version.header_crc32c = facts.stored_header_crc32c;
+            if let Some(n) = facts.numbered {
+                version.generation = n.generation;
+                version.meta_seq = n.meta_seq;
+                version.prev_header_crc32c = n.prev_header_crc32c;
+            }
+        }
+        version
+    }
+}
+
+fn u32_at(frame: &[u8], at: usize) -> u32
+    requires { at + 4 ≤ length frame.now }
+    ensures { result ≡ le32 frame.now at }
+{
+    let mut bytes = [0u8; 4];
+    bytes.copy_from_slice(&frame[at..at + 4]);
+    u32::from_le_bytes(bytes)
+}
+
+fn u64_at(frame: &[u8], at: usize) -> u64
+    requires { at + 8 ≤ length frame.now }
+    ensures { result ≡ le64 frame.now at }
+{
+    let mut bytes = [0u8; 8];
+    bytes.copy_from_slice(&frame[at..at + 8]);
+    u64::from_le_bytes(bytes)
+}
+
+impl SlotPart {
+    // Filled from a slot's status and what its header shows.
+    pub fn new(status: SlotStatus, facts: Option<HeaderFacts>) -> Self
+        ensures { result ≡ part_of status facts }
+    {
+        let version = match status {
+            SlotStatus::Valid(info) => Version::of_info(info),
+            _ => Version::of_facts(facts),
+        };
+        let number = match facts {
+            None => 0,
+            Some(HeaderFacts { numbered: None, .. }) => 1,
+            Some(_) => 2,
+        };
+        SlotPart {
+            code: status.code(),
+            facts: number,
+            version,
+        }
+    }
+
+    // The part as it stands in a frame,
+    pub fn bytes(self) -> [u8; PART]
+        ensures { result ≡ part_bytes self }
+    {
+        let g = self.version.generation.to_le_bytes();
+        let n = self.version.meta_seq.to_le_bytes();
+        let own = self.version.header_crc32c.to_le_bytes();
+        let prev = self.version.prev_header_crc32c.to_le_bytes();
+        [
+            self.code, self.facts, g[0], g[1], g[2], g[3], g[4], g[5], g[6], g[7], n[0], n[1],
+            n[2], n[3], n[4], n[5], n[6], n[7], own[0], own[1], own[2], own[3], prev[0], prev[1],
+            prev[2], prev[3],
+        ]
+    }
+
+    // and read back from there.
+    pub(crate) fn read(frame: &[u8], at: usize) -> Self
+        requires { at + part_width ≤ length frame.now }
+        ensures { result ≡ part_at frame.now at }
+    {
+        SlotPart {
+            code: frame[at],
+            facts: frame[at + 1],
+            version: Version {
+                generation: u64_at(frame, at + 2),
+                meta_seq: u64_at(frame, at + 10),
+                header_crc32c: u32_at(frame, at + 18),
+                prev_header_crc32c: u32_at(frame, at + 22),
+            },
+        }
+    }
+
+    // Whether status and facts are numbers of one.
+    pub fn is_in_range(self) -> bool
+        ensures { result ≡ is_in_range self }
+    {
+        self.code <= 12 && self.facts <= 2
+    }
+
+    // What it tells the judge.
+    pub fn shown(self) -> Shown
+        ensures { result ≡ part_shown self }
+    {
+        match (self.code, self.facts) {
+            (12, _) => Shown::Valid(self.version),
+            (11, 2) => Shown::BadPayload(self.version),
+            (4, 1..) => Shown::BadHeader(self.version.header_crc32c),
+            (2, _) => Shown::Blank,
+            (5 | 6, _) => Shown::Unsupported,
+            _ => Shown::Other,
+        }
+    }
+}

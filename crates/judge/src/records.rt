@@ -1,0 +1,113 @@
+// The judge over a row of pairs as they were read, and a row of verdicts.
+ghost use Rattle.std.specs.Prelude.{◌≡◌, ◌==◌, length, true, refl};
+ghost use Rattle.judge.specs.Records.{shown_read, pair_read, judge_records, records_left};
+ghost use Rattle.judge.specs.ReadBack.{same_length};
+
+use crate::pairs::{Pair, Shown, Version};
+use crate::row::{ReadPair, Verdicts};
+use crate::verdict::{JudgeError, Judgement, PairVerdict};
+use slot::slot::{HeaderFacts, SlotStatus};
+
+// One slot as read: its status, and what its header shows.
+#[derive(Clone, Copy)]
+pub struct SlotRead {
+    pub status: SlotStatus,
+    pub facts: Option<HeaderFacts>,
+}
+
+// Both slots of one pair.
+#[derive(Clone, Copy)]
+pub struct PairRead {
+    pub a: SlotRead,
+    pub b: SlotRead,
+}
+
+impl SlotRead {
+    // What the judge is told of the slot.
+    pub fn shown(self) -> Shown
+        ensures { result ≡ shown_read self }
+    {
+        match (self.status, self.facts) {
+            (SlotStatus::Valid(info), _) => Shown::Valid(Version::of_info(info)),
+            (
+                SlotStatus::BadPayloadCrc,
+                Some(
+                    HeaderFacts {
+                        numbered: Some(_), ..
+                    },
+                ),
+            ) => Shown::BadPayload(Version::of_facts(self.facts)),
+            (SlotStatus::BadHeaderCrc, Some(facts)) => Shown::BadHeader(facts.stored_header_crc32c),
+            (SlotStatus::Blank, _) => Shown::Blank,
+            (SlotStatus::UnsupportedVersion { .. } | SlotStatus::Incompatible { .. }, _) => {
+                Shown::Unsupported
+            }
+            _ => Shown::Other,
+        }
+    }
+}
+
+impl ReadPair for PairRead {
+    ghost shown = { pair_read };
+
+    ghost within = { λ p. true };
+
+    fn is_in_range(&self) -> bool {
+        true
+    }
+
+    fn pair(&self) -> Pair {
+        Pair {
+            a: self.a.shown(),
+            b: self.b.shown(),
+        }
+    }
+}
+
+// Verdicts as records.
+struct VerdictSlice<'a>(&'a mut [PairVerdict]);
+
+impl Verdicts for VerdictSlice<'_> {
+    type Cell = PairVerdict;
+
+    ghost cell = { λ v. v };
+
+    ghost read = { λ v. v };
+
+    ghost cells = { λ s. s.0.now };
+
+    ghost fitting = { λ s n. length s.0.now == n };
+
+    ghost place = { λ s. s.0.ghost_name };
+
+    fn fits(&self, pairs: usize) -> bool {
+        self.0.len() == pairs
+    }
+
+    fn verdict(&self, i: usize) -> PairVerdict {
+        self.0[i]
+    }
+
+    fn put(&mut self, i: usize, v: PairVerdict) {
+        self.0[i] = v;
+    }
+
+    ghost fitted = { λ s n. same_length (length s.0.now) n };
+
+    ghost reads_back = { λ v. refl };
+}
+
+// Judges every pair and writes its verdict. `clean_close` is the volume winner's clean mark. Nothing is written where there is an error.
+pub fn judge(
+    pairs: &[PairRead],
+    clean_close: bool,
+    out: &mut [PairVerdict],
+) -> Result<Judgement, JudgeError>
+    ensures value { result ≡ judge_records pairs.now clean_close (length out.old) }
+    ensures out_after { out.new ≡ records_left pairs.now clean_close out.old }
+{
+    let mut out = VerdictSlice(out);
+    let answer = crate::row::judge(pairs, clean_close as u8, &mut out);
+    let VerdictSlice(_) = out;
+    answer
+}

@@ -1,0 +1,160 @@
+// The judge of a row of pairs, whatever they and the lent verdicts are kept in. The row is gone through three times: for the ranges and
+// the highest numbers, for each pair's own verdict, and for the rules of the whole store. Pair 0 is the volume record.
+ghost use Rattle.std.specs.Prelude.{◌≡◌, ◌<◌, ◌≤◌, ◌==◌, ◌&&◌, nat_le, ℕ, Bool, List, if◌then◌else◌, length, map, true, Some, None, slice_get, slice_set};
+ghost use Rattle.std.specs.List.{list_all};
+ghost use Rattle.std.specs.Borrow.{GName};
+ghost use Rattle.judge.specs.declared.pairs.Pair.{Pair};
+ghost use Rattle.judge.specs.declared.verdict.PairVerdict.{PairVerdict};
+ghost use Rattle.judge.specs.Maxima.{no_maxima, note_all};
+ghost use Rattle.judge.specs.Numbers.{slots};
+ghost use Rattle.judge.specs.Passes.{verdicts_by, no_tally, tallies, heals};
+ghost use Rattle.judge.specs.Judge.{last_verdicts, judgement, verdicts, error, unless, left};
+
+use crate::numbers::Maxima;
+use crate::pairs::Pair;
+use crate::verdict::{JudgeError, Judgement, PairVerdict, StoreRules, Tally};
+use slot::slot::SlotIndex;
+
+// Both slots of one pair, in the form that a caller has.
+pub(crate) trait ReadPair {
+    ghost shown: { Self → Pair };
+
+    ghost within: { Self → Bool };
+
+    // Whether its values are in range.
+    fn is_in_range(&self) -> bool
+        ensures { result ≡ within self.now };
+
+    // What the slots show.
+    fn pair(&self) -> Pair
+        ensures { result ≡ shown self.now };
+}
+
+// Lent verdicts, in the form that a caller has.
+pub(crate) trait Verdicts {
+    type Cell;
+
+    ghost cell: { PairVerdict → Self.Cell };
+
+    ghost read: { Self.Cell → PairVerdict };
+
+    ghost cells: { Self → List Self.Cell };
+
+    // Whether there is a verdict a pair, of so many pairs.
+    ghost fitting: { Self → ℕ → Bool };
+
+    // The lent place.
+    ghost place: { Self → GName };
+
+    fn fits(&self, pairs: usize) -> bool
+        ensures { result ≡ fitting self.now pairs };
+
+    fn verdict(&self, i: usize) -> PairVerdict
+        requires { i < length (cells self.now) }
+        ensures { slice_get (map read (cells self.now)) i ≡ Some result };
+
+    fn put(&mut self, i: usize, v: PairVerdict)
+        requires { i < length (cells self.old) }
+        ensures cells { cells self.new ≡ slice_set (cells self.old) i (cell v) }
+        ensures place { place self.new ≡ place self.old };
+
+    ghost fitted: { (s : Self) (n : ℕ) → fitting s n ≡ true → length (cells s) ≡ n };
+
+    ghost reads_back: { (v : PairVerdict) → read (cell v) ≡ v };
+}
+
+// The highest numbers of the row, if all its values are in range.
+fn maxima<P: ReadPair>(pairs: &[P]) -> Option<Maxima>
+    ensures { result ≡ if list_all P.within pairs.now then Some (note_all no_maxima (slots (map P.shown pairs.now))) else None }
+{
+    let mut m = Maxima {
+        first: 0,
+        second: 0,
+    };
+    for p in pairs {
+        if !p.is_in_range() {
+            return None;
+        }
+        m.note_pair(p.pair());
+    }
+    Some(m)
+}
+
+// Writes each pair's first verdict, and counts over them.
+fn first_pass<P: ReadPair, V: Verdicts>(pairs: &[P], m: Maxima, out: &mut V) -> Tally
+    requires { length (V.cells out.old) ≡ length pairs.now }
+    ensures room { length (V.cells out.new) ≡ length pairs.now }
+    ensures tally { result ≡ tallies m true no_tally (map P.shown pairs.now) }
+    ensures cells { V.cells out.new ≡ map V.cell (verdicts_by m (map P.shown pairs.now)) }
+    ensures place { V.place out.new ≡ V.place out.old }
+{
+    let mut t = Tally {
+        candidates: 0,
+        page_had_candidate: false,
+        troubled: false,
+        refused: false,
+    };
+    for (i, p) in pairs.iter().enumerate() {
+        let case = p.pair().case();
+        let v = PairVerdict::first(m, case);
+        t.count(i == 0, case, v);
+        out.put(i, v);
+    }
+    t
+}
+
+// Makes each first verdict the last one, and answers the write to heal. The volume record has a rule of its own.
+fn second_pass<V: Verdicts>(rules: StoreRules, pairs: usize, out: &mut V) -> Option<(usize, SlotIndex)>
+    requires room { length (V.cells out.old) ≡ pairs }
+    requires hold { map V.cell (map V.read (V.cells out.old)) ≡ V.cells out.old }
+    ensures room { length (V.cells out.new) ≡ length (V.cells out.old) }
+    ensures heal { result ≡ heals 0 None (last_verdicts rules.volume_demote rules.page_demote (map V.read (V.cells out.old))) }
+    ensures cells { V.cells out.new ≡ map V.cell (last_verdicts rules.volume_demote rules.page_demote (map V.read (V.cells out.old))) }
+    ensures place { V.place out.new ≡ V.place out.old }
+{
+    let mut heal = None;
+    for i in 0..pairs {
+        let v = out.verdict(i);
+        if v.in_flight() {
+            let last = v.demoted_if(rules.demotes(i == 0));
+            heal = last.heal(i).or(heal);
+            out.put(i, last);
+        }
+    }
+    heal
+}
+
+// Judges every pair and writes its verdict. `clean` is the volume winner's clean mark, 0 or 1. Nothing is written where there is an error.
+pub(crate) fn judge<P: ReadPair, V: Verdicts>(
+    pairs: &[P],
+    clean: u8,
+    out: &mut V,
+) -> Result<Judgement, JudgeError>
+    ensures value { result ≡ unless (error (length pairs.now == 0) true (V.fitting out.old (length pairs.now)) (nat_le clean 1 && list_all P.within pairs.now)) (judgement (map P.shown pairs.now) (clean == 1)) }
+    ensures cells { V.cells out.new ≡ left (error (length pairs.now == 0) true (V.fitting out.old (length pairs.now)) (nat_le clean 1 && list_all P.within pairs.now)) (map V.cell (verdicts (map P.shown pairs.now) (clean == 1))) (V.cells out.old) }
+    ensures place { V.place out.new ≡ V.place out.old }
+{
+    if pairs.is_empty() {
+        return Err(JudgeError::Empty);
+    }
+    if !out.fits(pairs.len()) {
+        return Err(JudgeError::OutputLength);
+    }
+    if clean > 1 {
+        return Err(JudgeError::OutOfRange);
+    }
+    let Some(m) = maxima(pairs) else {
+        return Err(JudgeError::OutOfRange);
+    };
+    let tally = first_pass(pairs, m, out);
+    let volume = out.verdict(0);
+    let rules = tally.rules(clean == 1, volume);
+    let heal = second_pass(rules, pairs.len(), out);
+    let last = out.verdict(0);
+    Ok(Judgement {
+        heal,
+        writable: tally.writable(volume.standing, last.standing),
+        clean: rules.clean,
+        refused: tally.refused,
+    })
+}

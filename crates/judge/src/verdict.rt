@@ -1,0 +1,344 @@
+// The verdicts on slots, pairs and the store, one pair at a time, in two passes. The first gives each pair a verdict and counts what it
+// meets; the second applies the rules of the whole store.
+//
+// A write in flight is healed if it is the only candidate that qualifies. A page's is not healed under a clean mark, nor in a store
+// where any pair is not Confirmed; the volume record's is healed unless a pair is refused. One that is not healed is Damage.
+ghost use Rattle.std.specs.Prelude.{◌≡◌, ◌<◌};
+ghost use Rattle.judge.specs.Maxima.{by_maxima};
+ghost use Rattle.judge.specs.Verdict.{slot_verdict, winner_beside, no_winner, pair_verdict, in_flight};
+ghost use Rattle.judge.specs.Judge.{demoted, demotes, store_rules, writable, pair_heal};
+ghost use Rattle.judge.specs.Values.{standing_number, standing_from, slot_verdict_number, slot_verdict_from, choice_number, choice_from, heal_slot, heal_pair, error_number};
+ghost use Rattle.judge.specs.Passes.{tallied};
+
+use crate::numbers::Maxima;
+use crate::pairs::{Opposite, PairCase};
+use slot::slot::SlotIndex;
+
+// What became of one slot.
+#[derive(Clone, Copy, PartialEq, Eq)]
+pub enum SlotVerdict {
+    // The pair's current version.
+    Winner,
+    // The previous version, intact, or a slot never written opposite a first-generation winner.
+    Nothing,
+    // The winner's predecessor, damaged: reported only.
+    OlderDamaged,
+    // The one write a crash left torn: the winner stands Confirmed, and a writable open rewrites this slot.
+    InFlight,
+    // A crash cannot explain it.
+    Damage,
+}
+
+// A pair's standing.
+#[derive(Clone, Copy, PartialEq, Eq)]
+pub enum Standing {
+    // The winner is the latest committed version.
+    Confirmed,
+    // The winner may be missing later commits.
+    Unconfirmed,
+    // No usable winner.
+    Lost,
+    // Written by a newer format, or with a must-understand flag this version does not know: the open fails.
+    Refused,
+}
+
+// The verdict on one pair.
+#[derive(Clone, Copy)]
+pub struct PairVerdict {
+    pub standing: Standing,
+    // None where the pair is Lost or Refused.
+    pub winner: Option<SlotIndex>,
+    pub a: SlotVerdict,
+    pub b: SlotVerdict,
+}
+
+// What the first pass counts.
+#[derive(Clone, Copy)]
+pub struct Tally {
+    // Candidates that qualify.
+    pub candidates: usize,
+    // Some page had a candidate, qualifying or not.
+    pub page_had_candidate: bool,
+    // Some pair is not Confirmed.
+    pub troubled: bool,
+    pub refused: bool,
+}
+
+// The rules of the whole store, for the second pass.
+#[derive(Clone, Copy)]
+pub struct StoreRules {
+    // The clean mark holds: every candidate is judged as damage.
+    pub clean: bool,
+    pub volume_demote: bool,
+    pub page_demote: bool,
+}
+
+// The verdict on the whole store.
+#[derive(Clone, Copy)]
+pub struct Judgement {
+    // The torn write to heal: its pair and its slot.
+    pub heal: Option<(usize, SlotIndex)>,
+    // A writable open may proceed.
+    pub writable: bool,
+    // The clean mark was applied.
+    pub clean: bool,
+    // Some pair is refused: the open fails.
+    pub refused: bool,
+}
+
+// Why there is no judgement.
+#[derive(Clone, Copy)]
+pub enum JudgeError {
+    // No pair.
+    Empty,
+    // Another number of verdicts than of pairs.
+    OutputLength,
+    // No whole frames, or a value out of range.
+    OutOfRange,
+}
+
+// ---- numbers
+
+impl SlotVerdict {
+    // Its number,
+    pub fn as_u8(self) -> u8
+        ensures { result ≡ slot_verdict_number self }
+    {
+        self as u8
+    }
+
+    // and what a number stands for.
+    pub fn from_u8(n: u8) -> Self
+        ensures { result ≡ slot_verdict_from n }
+    {
+        match n {
+            0 => SlotVerdict::Winner,
+            1 => SlotVerdict::Nothing,
+            2 => SlotVerdict::OlderDamaged,
+            3 => SlotVerdict::InFlight,
+            _ => SlotVerdict::Damage,
+        }
+    }
+}
+
+impl Standing {
+    // Its number,
+    pub fn as_u8(self) -> u8
+        ensures { result ≡ standing_number self }
+    {
+        self as u8
+    }
+
+    // and what a number stands for.
+    pub fn from_u8(n: u8) -> Self
+        ensures { result ≡ standing_from n }
+    {
+        match n {
+            0 => Standing::Confirmed,
+            1 => Standing::Unconfirmed,
+            2 => Standing::Lost,
+            _ => Standing::Refused,
+        }
+    }
+}
+
+// The number of a pair's winner, or of its slot to heal, 0 for none,
+pub fn choice_number(slot: Option<SlotIndex>) -> u8
+    ensures { result ≡ choice_number slot }
+{
+    slot.map_or(0, |index| index.number())
+}
+
+// and what a number stands for.
+pub fn choice_from(n: u8) -> Option<SlotIndex>
+    ensures { result ≡ choice_from n }
+{
+    match n {
+        0 => None,
+        1 => Some(SlotIndex::A),
+        _ => Some(SlotIndex::B),
+    }
+}
+
+impl Judgement {
+    // The number of the slot to heal, 0 for none,
+    pub fn heal_slot(self) -> u8
+        ensures { result ≡ heal_slot self.heal }
+    {
+        choice_number(self.heal.map(|(_, index)| index))
+    }
+
+    // and its pair, 0 without a heal.
+    pub fn heal_pair(self) -> usize
+        ensures { result ≡ heal_pair self.heal }
+    {
+        self.heal.map_or(0, |(pair, _)| pair)
+    }
+}
+
+impl JudgeError {
+    // Its number.
+    pub fn number(self) -> u8
+        ensures { result ≡ error_number self }
+    {
+        match self {
+            JudgeError::Empty => 8,
+            JudgeError::OutputLength => 9,
+            JudgeError::OutOfRange => 10,
+        }
+    }
+}
+
+// ---- the first pass
+
+impl Opposite {
+    fn verdict(self, m: Maxima) -> SlotVerdict
+        ensures { result ≡ slot_verdict (by_maxima m SlotIndex.A) self }
+    {
+        match self {
+            Opposite::Nothing => SlotVerdict::Nothing,
+            Opposite::OlderDamaged => SlotVerdict::OlderDamaged,
+            Opposite::Candidate(seq) if m.qualifies(seq) => SlotVerdict::InFlight,
+            _ => SlotVerdict::Damage,
+        }
+    }
+}
+
+impl PairVerdict {
+    fn no_winner(standing: Standing) -> Self
+        ensures { result ≡ no_winner standing }
+    {
+        PairVerdict {
+            standing,
+            winner: None,
+            a: SlotVerdict::Damage,
+            b: SlotVerdict::Damage,
+        }
+    }
+
+    // The winner at `index`, beside a slot of this verdict.
+    fn winner_beside(index: SlotIndex, other: SlotVerdict) -> Self
+        ensures { result ≡ winner_beside index other }
+    {
+        let standing = if other == SlotVerdict::Damage {
+            Standing::Unconfirmed
+        } else {
+            Standing::Confirmed
+        };
+        let (a, b) = match index {
+            SlotIndex::A => (SlotVerdict::Winner, other),
+            SlotIndex::B => (other, SlotVerdict::Winner),
+        };
+        PairVerdict {
+            standing,
+            winner: Some(index),
+            a,
+            b,
+        }
+    }
+
+    // After the first pass; provisional where a slot is in flight.
+    pub fn first(m: Maxima, case: PairCase) -> Self
+        ensures { result ≡ pair_verdict (by_maxima m) case }
+    {
+        match case {
+            PairCase::Refused => PairVerdict::no_winner(Standing::Refused),
+            PairCase::Lost => PairVerdict::no_winner(Standing::Lost),
+            PairCase::Won(index, other) => PairVerdict::winner_beside(index, other.verdict(m)),
+        }
+    }
+
+    // Whether a slot of the pair is the write in flight.
+    pub fn in_flight(self) -> bool
+        ensures { result ≡ in_flight self }
+    {
+        self.a == SlotVerdict::InFlight || self.b == SlotVerdict::InFlight
+    }
+}
+
+impl Tally {
+    // One more pair; `volume`: it is the volume record.
+    pub fn count(&mut self, volume: bool, case: PairCase, v: PairVerdict)
+        requires { self.old.candidates < usize.MAX }
+        ensures { self.new ≡ tallied self.old volume case v }
+    {
+        if v.in_flight() {
+            self.candidates += 1;
+        }
+        self.page_had_candidate |= !volume && case.has_candidate();
+        self.troubled |= v.standing != Standing::Confirmed;
+        self.refused |= v.standing == Standing::Refused;
+    }
+
+    // The rules of the store, beside the volume record's verdict. The clean mark counts if that is Confirmed and has no candidate.
+    pub fn rules(self, clean: bool, volume: PairVerdict) -> StoreRules
+        ensures { result ≡ store_rules clean self volume }
+    {
+        let clean = clean && volume.standing == Standing::Confirmed && !volume.in_flight();
+        StoreRules {
+            clean,
+            volume_demote: self.candidates != 1 || self.refused,
+            page_demote: clean || self.candidates != 1 || self.troubled,
+        }
+    }
+
+    // Whether the store may be written, by the volume record's standing after each pass.
+    pub fn writable(self, first: Standing, last: Standing) -> bool
+        ensures { result ≡ writable self.refused self.page_had_candidate first last }
+    {
+        !self.refused
+            && !matches!(first, Standing::Lost | Standing::Refused)
+            && (last != Standing::Unconfirmed || !self.page_had_candidate)
+    }
+}
+
+// ---- the second pass
+
+impl StoreRules {
+    // Whether a write in flight is demoted to damage; the volume record, which is the `first` pair, has a rule of its own.
+    pub fn demotes(self, first: bool) -> bool
+        ensures { result ≡ demotes self first }
+    {
+        if first {
+            self.volume_demote
+        } else {
+            self.page_demote
+        }
+    }
+}
+
+impl PairVerdict {
+    // Where it is demoted, a slot in flight becomes Damage, and its pair Unconfirmed.
+    pub fn demoted_if(self, demote: bool) -> Self
+        ensures { result ≡ demoted demote self }
+    {
+        let slot = |v: SlotVerdict| if v == SlotVerdict::InFlight {
+            SlotVerdict::Damage
+        } else {
+            v
+        };
+        if demote && self.in_flight() {
+            PairVerdict {
+                standing: Standing::Unconfirmed,
+                winner: self.winner,
+                a: slot(self.a),
+                b: slot(self.b),
+            }
+        } else {
+            self
+        }
+    }
+
+    // The slot in flight, as that of the pair with this number.
+    pub fn heal(self, pair: usize) -> Option<(usize, SlotIndex)>
+        ensures { result ≡ pair_heal pair self }
+    {
+        if self.b == SlotVerdict::InFlight {
+            Some((pair, SlotIndex::B))
+        } else if self.a == SlotVerdict::InFlight {
+            Some((pair, SlotIndex::A))
+        } else {
+            None
+        }
+    }
+}

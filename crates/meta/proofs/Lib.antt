@@ -1,0 +1,8 @@
+pub mod BlockLaws
+pub mod Rows
+pub mod Encoding
+pub mod Utf8Laws
+pub mod NameLaws
+pub mod BaseLaws
+pub mod VolumeLaws
+pub mod EntryLaws

@@ -1,0 +1,11 @@
+pub mod Error
+pub mod Kind
+pub mod Utf8
+pub mod Scalar
+pub mod Name
+pub mod Block
+pub mod Base
+pub mod Volume
+pub mod Entry
+pub mod Check
+pub mod Page
