@@ -1,6 +1,7 @@
 -- The first pass as the code makes it is the definition's: a candidate's number is the one that its slot counts for, so the code's rule and
 -- the definition's agree on every pair; and the tally kept from pair to pair is that of the row.
-use Rattle.std.proofs.Common.{◌≡◌, refl, ◌∙◌, subst, Bool, true, false, cond, ◌||◌, List, [], ◌∷◌, ℕ, suc, ◌+◌, ◌*◌, zero-add, arith, eqb, ltb, leb, Option, Some, None}
+use Rattle.std.proofs.Common.{◌≡◌, refl, ◌∙◌, subst, Bool, true, false, cond, ◌&&◌, ◌||◌, List, [], ◌∷◌, ℕ, suc, ◌+◌, ◌*◌, zero-add, arith, eqb, ltb, leb, Option, Some, None}
+use Rattle.std.specs.Option.{option_or}
 use Rattle.slot.specs.declared.slot.SlotIndex.{SlotIndex}
 use Rattle.slot.specs.Status.{other}
 use Rattle.judge.specs.declared.pairs.Version.{Version}
@@ -15,8 +16,8 @@ use Rattle.judge.specs.Pairs.{numbered, opposite, is_unsupported, valid, winner,
 use Rattle.judge.specs.Numbers.{slots, qualifies}
 use Rattle.judge.specs.Maxima.{no_maxima, note_all, qualifies_by, by_maxima}
 use Rattle.judge.specs.Verdict.{by_index, slot_verdict, pair_verdict, in_flight}
-use Rattle.judge.specs.Judge.{verdicts_from, first_verdicts, candidates, any_candidate, any_trouble, any_refused, first_tally}
-use Rattle.judge.specs.Passes.{verdicts_by, no_tally, tallied, tallies}
+use Rattle.judge.specs.Judge.{verdicts_from, first_verdicts, candidates, any_candidate, any_trouble, any_refused, first_tally, pair_heal, heal}
+use Rattle.judge.specs.Passes.{verdicts_by, no_tally, tallied, tallies, heals}
 use Rattle.judge.proofs.NumberLaws.{At, qualifies-same}
 
 -- ---- a candidate's number is the one that its slot counts for
@@ -24,24 +25,19 @@ use Rattle.judge.proofs.NumberLaws.{At, qualifies-same}
 opposite-number : (index : SlotIndex) (w : Version) (s : Shown) (v : ℕ) → opposite index w s ≡ Opposite.Candidate (Some v) → numbered s ≡ Some v
 opposite-number index w (Shown.Valid o) v is = cc
 opposite-number index w (Shown.BadPayload o) v is =
-    go (ltb o.generation w.generation) (eqb o.generation (w.generation + 1)) (eqb o.prev_header_crc32c w.header_crc32c) is
+    go (ltb o.generation w.generation) (eqb o.generation (w.generation + 1) && eqb o.prev_header_crc32c w.header_crc32c) is
   where
-    go : (older next linked : Bool)
-        → cond older Opposite.OlderDamaged (cond next (cond linked (Opposite.Candidate (Some o.meta_seq)) Opposite.Damage) Opposite.Damage)
-        ≡ Opposite.Candidate (Some v)
+    go : (older next : Bool)
+        → cond older Opposite.OlderDamaged (cond next (Opposite.Candidate (Some o.meta_seq)) Opposite.Damage) ≡ Opposite.Candidate (Some v)
         → Some o.meta_seq ≡ Some v
-    go true next linked is = cc
-    go false true true is = cc
-    go false true false is = cc
-    go false false linked is = cc
-opposite-number index w (Shown.BadHeader stored) v is = go (leb 2 w.generation) (eqb stored w.prev_header_crc32c) is
+    go true next is = cc
+    go false true is = cc
+    go false false is = cc
+opposite-number index w (Shown.BadHeader stored) v is = go (leb 2 w.generation && eqb stored w.prev_header_crc32c) is
   where
-    go : (second linked : Bool)
-        → cond second (cond linked Opposite.OlderDamaged (Opposite.Candidate None)) (Opposite.Candidate None) ≡ Opposite.Candidate (Some v)
-        → ◌≡◌ {A = Option ℕ} None (Some v)
-    go true true is = cc
-    go true false is = cc
-    go false linked is = cc
+    go : (older : Bool) → cond older Opposite.OlderDamaged (Opposite.Candidate None) ≡ Opposite.Candidate (Some v) → ◌≡◌ {A = Option ℕ} None (Some v)
+    go true is = cc
+    go false is = cc
 opposite-number SlotIndex.A w Shown.Blank v is = go (eqb w.generation 1) is
   where
     go : (one : Bool) → cond one Opposite.Nothing Opposite.Damage ≡ Opposite.Candidate (Some v) → ◌≡◌ {A = Option ℕ} None (Some v)
@@ -157,3 +153,20 @@ tally-same m [] = refl
 tally-same m (p ∷ ps) =
     let v = pair_verdict (by_maxima m) (pair_case p) in
     tallies-from m (tallied no_tally true (pair_case p) v) ps ∙ rw (count-first, zero-add)
+
+-- ---- the slot to heal
+
+or-assoc : {T : Type 0} (x y z : Option T) → option_or x (option_or y z) ≡ option_or (option_or x y) z
+or-assoc None y z = refl
+or-assoc (Some x) y z = refl
+
+pub heals-from : (i : ℕ) (before : Option (ℕ × SlotIndex)) (vs : List PairVerdict) → heals i before vs ≡ option_or (heal i vs) before
+heals-from i before [] = refl
+heals-from i before (v ∷ vs) = heals-from (i + 1) (option_or (pair_heal i v) before) vs ∙ or-assoc (heal (i + 1) vs) (pair_heal i v) before
+
+pub heals-same : (vs : List PairVerdict) → heals 0 None vs ≡ heal 0 vs
+heals-same vs = heals-from 0 None vs ∙ or-none-last (heal 0 vs)
+  where
+    or-none-last : (o : Option (ℕ × SlotIndex)) → option_or o None ≡ o
+    or-none-last None = refl
+    or-none-last (Some x) = refl

@@ -84,10 +84,12 @@ impl Verdicts for VerdictBytes<'_> {
 
     ghost place = { λ s. s.0.ghost_name };
 
+    #[tactic(auto, using(crate::proofs::CellLaws::whole_cells))]
     fn fits(&self, pairs: usize) -> bool {
         self.0.len() % VERDICT == 0 && self.0.len() / VERDICT == pairs
     }
 
+    #[tactic(auto, using(crate::proofs::CellLaws::length_cells, crate::proofs::CellLaws::cells_read))]
     fn verdict(&self, i: usize) -> PairVerdict {
         let at = i * VERDICT;
         PairVerdict::from_bytes([
@@ -98,6 +100,7 @@ impl Verdicts for VerdictBytes<'_> {
         ])
     }
 
+    #[tactic(auto, using(crate::proofs::CellLaws::length_cells, crate::proofs::CellLaws::cells_put))]
     fn put(&mut self, i: usize, v: PairVerdict) {
         let at = i * VERDICT;
         let bytes = v.bytes();

@@ -2,6 +2,7 @@
 ghost use Rattle.std.specs.Prelude.{◌≡◌, ◌==◌, length, true, refl};
 ghost use Rattle.judge.specs.Records.{shown_read, pair_read, judge_records, records_left};
 ghost use Rattle.judge.specs.ReadBack.{same_length};
+ghost use Rattle.judge.specs.Same.{SameJudge, IgnoredFields};
 
 use crate::pairs::{Pair, Shown, Version};
 use crate::row::{ReadPair, Verdicts};
@@ -111,3 +112,15 @@ pub fn judge(
     let VerdictSlice(_) = out;
     answer
 }
+
+// Does nothing: its contract is that the judge over frames filled from these pairs answers the same.
+#[tactic(auto, using(crate::proofs::SameLaws::same_judge))]
+pub fn same_law()
+    ensures { SameJudge }
+{}
+
+// Does nothing: its contract is that fields which are not given are ignored.
+#[tactic(auto, using(crate::proofs::SameLaws::ignored_fields))]
+pub fn ignored_law()
+    ensures { IgnoredFields }
+{}

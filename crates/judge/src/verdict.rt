@@ -6,7 +6,7 @@
 ghost use Rattle.std.specs.Prelude.{◌≡◌, ◌<◌};
 ghost use Rattle.judge.specs.Maxima.{by_maxima};
 ghost use Rattle.judge.specs.Verdict.{slot_verdict, winner_beside, no_winner, pair_verdict, in_flight};
-ghost use Rattle.judge.specs.Judge.{demoted, demotes, store_rules, writable, pair_heal};
+ghost use Rattle.judge.specs.Judge.{demoted, demotes, store_rules, writable, pair_heal, HealNames};
 ghost use Rattle.judge.specs.Values.{standing_number, standing_from, slot_verdict_number, slot_verdict_from, choice_number, choice_from, heal_slot, heal_pair, error_number};
 ghost use Rattle.judge.specs.Passes.{tallied};
 
@@ -342,3 +342,9 @@ impl PairVerdict {
         }
     }
 }
+
+// Does nothing: its contract is that a slot is named for healing if and only if its last verdict is InFlight.
+#[tactic(auto, using(crate::proofs::HealLaws::heal_names))]
+pub fn heal_law()
+    ensures { HealNames }
+{}

@@ -30,11 +30,6 @@ unfoldable pub report_numbers : PairReport → List ℕ
 report_numbers r =
     code r.a ∷ code r.b ∷ winner_number r.winner ∷ winner_slot r.winner ∷ from_bool r.generation_gap ∷ from_bool r.chain_break ∷ []
 
--- A slot, or none.
-abbrev pub next_number : Option SlotIndex → ℕ
-next_number (Some index) = slot_number index
-next_number None = 0
-
 -- The winner's slot and what is known of it; nothing behind the 0 without a winner.
 abbrev pub info_numbers : Option (SlotIndex × SlotInfo) → List ℕ
 info_numbers (Some won) = slot_number won.0 ∷ info_values won.1

@@ -1,12 +1,13 @@
 -- The pairs by the numbers of their statuses (docs/FORMAT.md, "Pairs"), computed.
 use Rattle.std.specs.Prelude.{◌≡◌, List, [], ◌∷◌, ℕ, map}
+use Rattle.slot.specs.Numbers.{choice_number}
 use Rattle.slot.specs.Status.{code}
 use Rattle.slot.specs.declared.slot.SlotIndex.{SlotIndex}
 use Rattle.slot.specs.declared.slot.SlotStatus.{SlotStatus}
 use Rattle.pair.specs.declared.pair.Winner.{Winner}
 use Rattle.pair.specs.declared.pair.PairReport.{PairReport}
 use Rattle.pair.specs.Pair.{decide, plain, next_write}
-use Rattle.pair.specs.Numbers.{winner_number, winner_slot, report_numbers, next_number}
+use Rattle.pair.specs.Numbers.{winner_number, winner_slot, report_numbers}
 
 -- A slot of this generation, with its own header's checksum and the one that it names as the last one's.
 abbrev pub version : ℕ → ℕ → ℕ → SlotStatus
@@ -86,4 +87,4 @@ abbrev pub WinnerNumbers : Type 0
 WinnerNumbers =
     (map winner_number winners ≡ 0 ∷ 0 ∷ 1 ∷ 1 ∷ 2 ∷ 3 ∷ 4 ∷ 5 ∷ [])
     × (map winner_slot winners ≡ 1 ∷ 2 ∷ 1 ∷ 2 ∷ 0 ∷ 0 ∷ 0 ∷ 0 ∷ [])
-    × (map (λ w. next_number (next_write (plain SlotStatus.Blank SlotStatus.Blank w))) winners ≡ 2 ∷ 1 ∷ 2 ∷ 1 ∷ 0 ∷ 0 ∷ 1 ∷ 0 ∷ [])
+    × (map (λ w. choice_number (next_write (plain SlotStatus.Blank SlotStatus.Blank w))) winners ≡ 2 ∷ 1 ∷ 2 ∷ 1 ∷ 0 ∷ 0 ∷ 1 ∷ 0 ∷ [])

@@ -11,8 +11,9 @@
 // Two valid slots of one generation are a fork (two writers, or a replayed write), and no winner is chosen. A slot written by a newer format
 // makes the pair refused: this version neither reads nor overwrites it.
 ghost use Rattle.std.specs.Prelude.{◌≡◌};
+ghost use Rattle.slot.specs.Numbers.{choice_number};
 ghost use Rattle.pair.specs.Pair.{refused, explains_survivor, survivor, decide, status, winner_info, next_write};
-ghost use Rattle.pair.specs.Numbers.{report_numbers, info_numbers, next_number, winner_number, winner_slot};
+ghost use Rattle.pair.specs.Numbers.{report_numbers, info_numbers, winner_number, winner_slot};
 ghost use Rattle.pair.specs.Table.{BesideValid, NoneValid, TwoValid, WinnerNumbers};
 
 use slot::slot::{SlotIndex, SlotInfo, SlotStatus};
@@ -116,7 +117,7 @@ impl PairReport {
     // Which slot the next update must write: the one not holding the winner. `None` when the pair must not be written.
     pub fn next_write(self) -> Option<SlotIndex>
         ensures value { result ≡ next_write self }
-        ensures number { next_number result ≡ next_number (next_write self) }
+        ensures number { choice_number result ≡ choice_number (next_write self) }
     {
         match self.winner {
             Winner::Empty => Some(SlotIndex::A),

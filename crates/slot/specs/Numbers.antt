@@ -1,8 +1,14 @@
--- A status as numbers, both ways (docs/FORMAT.md, "Slot status" and "The C interface").
+-- A choice of slots and a status as numbers, this one both ways (docs/FORMAT.md, "Slot status" and "The C interface").
 use Rattle.std.specs.Prelude.{◌≡◌, List, [], ◌∷◌, ℕ, ◌==◌, if◌then◌else◌, map, replicate, Option, Some, None, option_map}
-use Rattle.slot.specs.Status.{code}
+use Rattle.slot.specs.Status.{code, slot_number}
+use Rattle.slot.specs.declared.slot.SlotIndex.{SlotIndex}
 use Rattle.slot.specs.declared.slot.SlotInfo.{SlotInfo}
 use Rattle.slot.specs.declared.slot.SlotStatus.{SlotStatus}
+
+-- A slot or none: 0 none, 1 A, 2 B.
+abbrev pub choice_number : Option SlotIndex → ℕ
+choice_number None = 0
+choice_number (Some index) = slot_number index
 
 -- What is known of a valid slot, in nine numbers.
 abbrev pub info_values : SlotInfo → List ℕ

@@ -1,8 +1,18 @@
-// A status as numbers, both ways, for hosts and lists of cases.
+// A choice of slots and a status as numbers, for hosts and lists of cases; a status from its number too.
 ghost use Rattle.std.specs.Prelude.{◌≡◌};
-ghost use Rattle.slot.specs.Numbers.{status_values, status_of, StatusNumbers};
+ghost use Rattle.slot.specs.Numbers.{choice_number, status_values, status_of, StatusNumbers};
 
-use crate::slot::{SlotInfo, SlotStatus};
+use crate::slot::{SlotIndex, SlotInfo, SlotStatus};
+
+// 0 none, 1 A, 2 B.
+pub fn choice_number(choice: Option<SlotIndex>) -> u8
+    ensures { result ≡ choice_number choice }
+{
+    match choice {
+        None => 0,
+        Some(index) => index.number(),
+    }
+}
 
 impl SlotStatus {
     // The values that go with the status, zeros behind them: the format that is not supported, the flags that are not known, or the facts
