@@ -5,7 +5,8 @@ use Rattle.slot.specs.declared.slot.SlotIndex.{SlotIndex}
 use Rattle.judge.specs.declared.verdict.SlotVerdict.{SlotVerdict}
 use Rattle.judge.specs.declared.verdict.Standing.{Standing}
 use Rattle.judge.specs.declared.verdict.PairVerdict.{PairVerdict}
-use Rattle.judge.specs.Values.{standing_number, standing_from, choice_number, choice_from, slot_verdict_number, slot_verdict_from}
+use Rattle.slot.specs.Numbers.{choice_number}
+use Rattle.judge.specs.Values.{standing_number, standing_from, choice_from, slot_verdict_number, slot_verdict_from}
 use borrow.Author.Tests.{eqb-true}
 use Rattle.judge.specs.Frames.{verdict_width, verdict_bytes, verdict_from, verdict_cells}
 

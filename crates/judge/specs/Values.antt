@@ -2,6 +2,7 @@
 use Rattle.std.specs.Prelude.{ℕ, ◌==◌, if◌then◌else◌, Option, Some, None}
 use Rattle.slot.specs.declared.slot.SlotIndex.{SlotIndex}
 use Rattle.slot.specs.Status.{slot_number}
+use Rattle.slot.specs.Numbers.{choice_number}
 use Rattle.judge.specs.declared.verdict.SlotVerdict.{SlotVerdict}
 use Rattle.judge.specs.declared.verdict.Standing.{Standing}
 use Rattle.judge.specs.declared.verdict.JudgeError.{JudgeError}
@@ -12,11 +13,6 @@ standing_number Standing.Confirmed = 0
 standing_number Standing.Unconfirmed = 1
 standing_number Standing.Lost = 2
 standing_number Standing.Refused = 3
-
--- A pair's winner or its slot to heal: 0 none, 1 A, 2 B.
-abbrev pub choice_number : Option SlotIndex → ℕ
-choice_number None = 0
-choice_number (Some index) = slot_number index
 
 -- 0 Winner, 1 Nothing, 2 OlderDamaged, 3 InFlight, 4 Damage.
 abbrev pub slot_verdict_number : SlotVerdict → ℕ
@@ -47,6 +43,7 @@ abbrev pub standing_from : ℕ → Standing
 standing_from n =
     if n == 0 then Standing.Confirmed else if n == 1 then Standing.Unconfirmed else if n == 2 then Standing.Lost else Standing.Refused
 
+-- A choice of slots, as `choice_number` of the slots numbers it: 0 none, 1 A, 2 B.
 abbrev pub choice_from : ℕ → Option SlotIndex
 choice_from n = if n == 0 then None else if n == 1 then Some SlotIndex.A else Some SlotIndex.B
 

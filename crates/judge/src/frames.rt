@@ -15,8 +15,9 @@ use crate::pairs::Pair;
 use crate::part::{PART, SlotPart};
 use crate::row::{ReadPair, Verdicts};
 use crate::verdict::{
-    JudgeError, Judgement, PairVerdict, SlotVerdict, Standing, choice_from, choice_number,
+    JudgeError, Judgement, PairVerdict, SlotVerdict, Standing, choice_from,
 };
+use slot::numbers::choice_number;
 
 /// The width of a pair's frame,
 pub const FRAME: usize = 2 * PART;
