@@ -1,5 +1,5 @@
 -- A slot's part of a frame shows what the slot as read shows, whatever stands in the fields that are not given, and is read back from its bytes.
-use Rattle.std.proofs.Common.{◌≡◌, refl, Bool, true, false, cond, ◌&&◌, List, [], ◌∷◌, ◌++◌, ℕ, ◌+◌, ◌<◌, ◌≤◌, arith, ne_eqb, leb, length, drop, get_or, drop-cons, Option, Some, None}
+use Rattle.std.proofs.Common.{◌≡◌, refl, Bool, true, cond, List, [], ◌∷◌, ◌++◌, ℕ, ◌+◌, ◌<◌, arith, ne_eqb, leb, length, get_or, drop-cons, Option, Some, None}
 use Rattle.codec.proofs.ReadLaws.{Rest, onward, value_u32, value_u64}
 use Rattle.std.specs.Int.{w32, w64, to_le_bytes}
 use Rattle.slot.specs.Status.{code}
@@ -9,7 +9,7 @@ use Rattle.slot.specs.declared.slot.NumberedHeader.{NumberedHeader}
 use Rattle.judge.specs.declared.pairs.Version.{Version}
 use Rattle.judge.specs.declared.part.SlotPart.{SlotPart}
 use Rattle.judge.specs.Part.{part_of, part_bytes, part_at, part_shown, is_in_range, facts_number, header_number}
-use Rattle.judge.specs.Records.{shown_of, payload_shown}
+use Rattle.judge.specs.Records.{shown_of}
 use Rattle.judge.specs.Same.{filled, NothingGiven, ChecksumGiven, VersionFits}
 
 -- ---- what it shows, and its range

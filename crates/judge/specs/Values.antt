@@ -1,5 +1,6 @@
 -- The numbers of standings, winners, slot verdicts, heals and errors, both ways (docs/FORMAT.md, "The store verdict" and "Refusals").
-use Rattle.std.specs.Prelude.{ℕ, ◌==◌, if◌then◌else◌, Option, Some, None}
+use Rattle.std.specs.Prelude.{◌≡◌, ℕ, ◌==◌, if◌then◌else◌, Option, Some, None}
+use Rattle.std.specs.Option.{option_map}
 use Rattle.slot.specs.declared.slot.SlotIndex.{SlotIndex}
 use Rattle.slot.specs.Status.{slot_number}
 use Rattle.slot.specs.Numbers.{choice_number}
@@ -54,3 +55,13 @@ slot_verdict_from n =
     else if n == 2 then SlotVerdict.OlderDamaged
     else if n == 3 then SlotVerdict.InFlight
     else SlotVerdict.Damage
+
+abbrev pub heal_from : ℕ → ℕ → Option (ℕ × SlotIndex)
+heal_from slot pair = option_map (λ index. (pair, index)) (choice_from slot)
+
+-- A number stands for what it is of.
+pub record NumbersBack : Type 0 where
+  pub standing : (s : Standing) → standing_from (standing_number s) ≡ s
+  pub choice : (o : Option SlotIndex) → choice_from (choice_number o) ≡ o
+  pub slot : (v : SlotVerdict) → slot_verdict_from (slot_verdict_number v) ≡ v
+  pub heal : (h : Option (ℕ × SlotIndex)) → heal_from (heal_slot h) (heal_pair h) ≡ h

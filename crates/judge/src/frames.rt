@@ -9,14 +9,13 @@
 // | 2, 3 | A, B: 0 Winner, 1 Nothing, 2 OlderDamaged, 3 InFlight, 4 Damage |
 ghost use Rattle.std.specs.Prelude.{◌≡◌, ◌*◌, ◌==◌, length};
 ghost use Rattle.judge.specs.Frames.{verdict_width, verdict_bytes, verdict_from, verdict_cells, pair_from, pair_in_range, judge_frames, frames_left};
+ghost use Rattle.judge.specs.Examples.{JudgeExamples};
 ghost use Rattle.judge.specs.ReadBack.{reads_back, cells_fit};
 
 use crate::pairs::Pair;
 use crate::part::{PART, SlotPart};
 use crate::row::{ReadPair, Verdicts};
-use crate::verdict::{
-    JudgeError, Judgement, PairVerdict, SlotVerdict, Standing, choice_from,
-};
+use crate::verdict::{JudgeError, Judgement, PairVerdict, SlotVerdict, Standing, choice_from};
 use slot::numbers::choice_number;
 
 /// The width of a pair's frame,
@@ -121,3 +120,9 @@ pub fn judge(frames: &[u8], clean: u8, out: &mut [u8]) -> Result<Judgement, Judg
     let VerdictBytes(_) = out;
     answer
 }
+
+// Does nothing: its contract is the examples.
+#[tactic(auto, using(crate::proofs::JudgeExamples::judge_examples))]
+pub fn examples()
+    ensures { JudgeExamples }
+{}

@@ -7,7 +7,7 @@ ghost use Rattle.std.specs.Prelude.{◌≡◌, ◌<◌};
 ghost use Rattle.judge.specs.Maxima.{by_maxima};
 ghost use Rattle.judge.specs.Verdict.{slot_verdict, winner_beside, no_winner, pair_verdict, in_flight};
 ghost use Rattle.judge.specs.Judge.{demoted, demotes, store_rules, writable, pair_heal, HealNames};
-ghost use Rattle.judge.specs.Values.{standing_number, standing_from, slot_verdict_number, slot_verdict_from, choice_from, heal_slot, heal_pair, error_number};
+ghost use Rattle.judge.specs.Values.{standing_number, standing_from, slot_verdict_number, slot_verdict_from, choice_from, heal_slot, heal_pair, error_number, NumbersBack};
 ghost use Rattle.judge.specs.Passes.{tallied};
 
 use crate::numbers::Maxima;
@@ -341,4 +341,10 @@ impl PairVerdict {
 #[tactic(auto, using(crate::proofs::HealLaws::heal_names))]
 pub fn heal_law()
     ensures { HealNames }
+{}
+
+// Does nothing: its contract is that each number of a standing, a choice, a slot's verdict and a heal is read back as what it is of.
+#[tactic(auto, using(crate::specs::ReadBack::numbers_back))]
+pub fn numbers_law()
+    ensures { NumbersBack }
 {}

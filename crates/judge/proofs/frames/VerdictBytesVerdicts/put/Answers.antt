@@ -1,5 +1,5 @@
 -- The bytes of one verdict are written.
-use Rattle.std.proofs.Common.{◌≡◌, ◌+◌, ◌-◌, ◌*◌, ◌∙◌, arith}
+use Rattle.std.proofs.Common.{◌≡◌, ◌+◌, ◌-◌, ◌*◌, arith}
 use Rattle.judge.proofs.CellLaws.{cells_put}
 use Rattle.judge.proofs.frames.VerdictBytesVerdicts.put.Goals as goal
 
