@@ -77,7 +77,7 @@ and-true x = grind arith
 -- ---- the judge over them
 
 -- The error of so many pairs.
-abbrev framed_error : List PairRead → ℕ → ℕ → Option JudgeError
+abbrev pub framed_error : List PairRead → ℕ → ℕ → Option JudgeError
 framed_error ps clean room = error (eqb (length ps) 0) true (eqb room (length ps * verdict_width)) (leb clean 1)
 
 module _ (fs : List Framed) (fits : AllFit fs) where
@@ -96,13 +96,13 @@ module _ (fs : List Framed) (fits : AllFit fs) where
       ∙ ap₂ (λ (n : ℕ) (within : Bool). error (eqb n 0) true (eqb room (n * verdict_width)) within) count-is
       (ap (λ x. leb clean 1 && x) (ap (list_all pair_in_range) frames-are ∙ all-in-range fs fits) ∙ and-true (leb clean 1))
 
-  answer-is : (clean room : ℕ)
+  pub answer-is : (clean room : ℕ)
       → judge_frames (frames_of fs) clean room
       ≡ unless (framed_error (pairs_of fs) clean room) (judgement (map pair_read (pairs_of fs)) (eqb clean 1))
   unfolding judge_frames
   answer-is clean room = rw (error-is clean room, row-is)
 
-  verdicts-are : (clean : ℕ) (out : List ℕ)
+  pub verdicts-are : (clean : ℕ) (out : List ℕ)
       → frames_left (frames_of fs) clean out
       ≡ left (framed_error (pairs_of fs) clean (length out)) (row_bytes (verdicts (map pair_read (pairs_of fs)) (eqb clean 1))) out
   unfolding frames_left
