@@ -2,3 +2,8 @@ pub mod NumberLaws
 pub mod PassLaws
 pub mod RowLaws
 pub mod CellLaws
+pub mod FrameLaws
+pub mod HealLaws
+pub mod PartLaws
+pub mod SameLaws
+pub mod JudgeExamples

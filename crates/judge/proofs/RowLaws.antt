@@ -1,5 +1,8 @@
 -- What the passes leave of a row is its judgement, whatever the verdicts are kept in.
-use Rattle.std.proofs.Common.{◌≡◌, refl, ap, ◌∙◌, Bool, true, List, [], ◌∷◌, ◌++◌, ℕ, zero, suc, ◌+◌, ◌<◌, length, map, set, take, drop, arith, add-one, cond, ◌||◌, false, eq-eqb, ne_eqb, slice_get, Option, Some, None}
+use Rattle.std.proofs.Common.{◌≡◌, refl, ap, ◌∙◌, Bool, true, List, [], ◌∷◌, ◌++◌, ℕ, zero, suc, ◌+◌, ◌<◌, length, map, set, take, drop, arith, add-one, cond, false, eqb, leb, ◌≤◌, ◌&&◌, slice_get, Option, Some, None, Result, OnOk, OnErr, subst}
+use mir.Val.{bool_byte}
+use Rattle.std.specs.Option.{option_or}
+use Rattle.std.specs.List.{list_all}
 use Rattle.std.proofs.lemmas.List.{drop-set-lt, take_more_set}
 use Rattle.slot.specs.declared.slot.SlotIndex.{SlotIndex}
 use Rattle.judge.specs.declared.pairs.Pair.{Pair}
@@ -8,21 +11,23 @@ use Rattle.judge.specs.declared.verdict.PairVerdict.{PairVerdict}
 use Rattle.judge.specs.declared.verdict.Tally.{Tally}
 use Rattle.judge.specs.declared.verdict.StoreRules.{StoreRules}
 use Rattle.judge.specs.declared.verdict.Judgement.{Judgement}
+use Rattle.judge.specs.declared.verdict.JudgeError.{JudgeError}
 use Rattle.judge.specs.Numbers.{slots}
 use Rattle.judge.specs.Maxima.{no_maxima, note_all}
-use Rattle.judge.specs.Verdict.{is_in_flight, in_flight}
-use Rattle.judge.specs.Judge.{demoted, healOf, first_verdicts, first_tally, volume_verdict, store_rules, last_verdicts, heals, writable, row_rules, verdicts, judgement}
-use Rattle.judge.specs.Passes.{verdicts_by, no_tally, tallies}
-use Rattle.judge.proofs.PassLaws.{verdicts-same, tally-same}
-use Rattle.judge.specs.Row.{all, refusal}
+use Rattle.judge.specs.Verdict.{in_flight}
+use Rattle.judge.specs.Judge.{demoted, pair_heal, first_verdicts, first_tally, volume_verdict, store_rules, last_verdicts, writable, row_rules, verdicts, judgement, error, unless, left}
+use Rattle.judge.specs.Passes.{verdicts_by, no_tally, tallies, heals}
+use Rattle.judge.proofs.PassLaws.{verdicts-same, tally-same, heals-same}
 
 -- The highest numbers are answered where all values are in range.
 pub in-range : {A : Type 0} (ok : Bool) (x m : A) → Some m ≡ cond ok (Some x) None → (ok ≡ true) × (m ≡ x)
 in-range true x m is = (refl, cc)
 in-range false x m is = (cc, cc)
 
-pub admitted : (n room : ℕ) (ok : Bool) → (n ≡ 0 → ⊥) → room ≡ n → ok ≡ true → refusal n room ok ≡ None
-admitted n room ok some same within = simp (ne_eqb n 0 some, eq-eqb room n same, within)
+-- No error: a pair at least, room for its verdicts, and all values in range.
+pub admitted : (n clean : ℕ) (fits within : Bool) → (n ≡ 0 → ⊥) → fits ≡ true → clean ≤ 1 → within ≡ true
+    → error (eqb n 0) true fits (leb clean 1 && within) ≡ None
+admitted n clean fits within some fit small in_range = grind (arith, some, fit, small, in_range)
 
 head-is : (vs : List PairVerdict) (v : PairVerdict) → slice_get vs 0 ≡ Some v → v ≡ volume_verdict vs
 head-is [] v is = cc
@@ -52,13 +57,8 @@ pub idle : (demote : Bool) (v : PairVerdict) → in_flight v ≡ false → demot
 idle true v none = rw none
 idle false v none = refl
 
-pub idle-heal : (i : ℕ) (before : Option (ℕ × SlotIndex)) (v : PairVerdict) → in_flight v ≡ false → healOf i before v ≡ before
-idle-heal i before v none = go (is_in_flight v.a) (is_in_flight v.b) none
-  where
-    go : (a b : Bool) → a || b ≡ false → cond b (Some (i, SlotIndex.B)) (cond a (Some (i, SlotIndex.A)) before) ≡ before
-    go true b none = cc
-    go false true none = cc
-    go false false none = refl
+pub idle-heal : (i : ℕ) (before : Option (ℕ × SlotIndex)) (v : PairVerdict) → in_flight v ≡ false → option_or (pair_heal i v) before ≡ before
+idle-heal i before v none = grind (arith, none)
 
 -- Cells that each hold a verdict.
 module _ {C : Type 0} (cell : PairVerdict → C) (read : C → PairVerdict) where
@@ -126,14 +126,25 @@ module _ {C : Type 0} (cell : PairVerdict → C) (read : C → PairVerdict) (bac
     row-judged {last = last} h-is last-is w-is =
         let judged : map read lasts ≡ verdicts ps clean = ap (map read) cells-judged ∙ read-all cell read back (verdicts ps clean) in
         let last-one = head-is (map read lasts) last last-is ∙ ap volume_verdict judged in
-        rw (w-is, h-is, last-verdicts, last-one, volume-first, row-rules, tally)
+        rw (w-is, h-is, heals-same, last-verdicts, last-one, volume-first, row-rules, tally)
+
+-- What is left of what was lent: what was done, or what was there where there is an error.
+pub left-after : {T D K : Type 0} (new done old : T) (e : Option JudgeError) (j : Judgement) (r : Result Judgement JudgeError)
+    → r ≡ unless e j → OnOk r D → (e ≡ None → D → new ≡ done) → OnErr r K → (K → new ≡ old) → new ≡ left e done old
+left-after {D = D} new done old None j r is ok whole err same = let d : D = subst (λ q. OnOk q D) is ok in whole refl d
+left-after {K = K} new done old (Some e) j r is ok whole err same = let k : K = subst (λ q. OnErr q K) is err in same k
 
 -- ---- pairs that are all in range, and verdicts that are kept as they are
 
-pub all-true : {A : Type 0} (xs : List A) → all (map (λ (x : A). true) xs) ≡ true
+pub all-true : {A : Type 0} (xs : List A) → list_all (λ (x : A). true) xs ≡ true
 all-true [] = refl
 all-true (x ∷ xs) = all-true xs
 
 pub map-same : {A : Type 0} (xs : List A) → map (λ (x : A). x) xs ≡ xs
 map-same [] = refl
 map-same (x ∷ xs) = rw (map-same xs)
+
+-- A flag is in range and read back.
+pub flag-back : (set : Bool) → (leb (bool_byte set) 1 ≡ true) × (eqb (bool_byte set) 1 ≡ set)
+flag-back true = (refl, refl)
+flag-back false = (refl, refl)

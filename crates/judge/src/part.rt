@@ -63,6 +63,18 @@ impl Version {
     }
 }
 
+/// What a header shows: 0 nothing, 1 its stored checksum, 2 the fields of a numbered slot too.
+pub fn facts_number(facts: Option<HeaderFacts>) -> u8
+    ensures { result ≡ facts_number facts }
+{
+    match facts {
+        None => 0,
+        Some(HeaderFacts { numbered: None, .. }) => 1,
+        Some(_) => 2,
+    }
+}
+
+#[tactic(auto, unfolding(codec::specs::Bytes::le))]
 fn u32_at(frame: &[u8], at: usize) -> u32
     requires { at + 4 ≤ length frame.now }
     ensures { result ≡ le32 frame.now at }
@@ -72,6 +84,7 @@ fn u32_at(frame: &[u8], at: usize) -> u32
     u32::from_le_bytes(bytes)
 }
 
+#[tactic(auto, unfolding(codec::specs::Bytes::le))]
 fn u64_at(frame: &[u8], at: usize) -> u64
     requires { at + 8 ≤ length frame.now }
     ensures { result ≡ le64 frame.now at }
@@ -90,19 +103,15 @@ impl SlotPart {
             SlotStatus::Valid(info) => Version::of_info(info),
             _ => Version::of_facts(facts),
         };
-        let number = match facts {
-            None => 0,
-            Some(HeaderFacts { numbered: None, .. }) => 1,
-            Some(_) => 2,
-        };
         SlotPart {
             code: status.code(),
-            facts: number,
+            facts: facts_number(facts),
             version,
         }
     }
 
     // The part as it stands in a frame,
+    #[tactic(auto, unfolding(crate::specs::Part::part_bytes))]
     pub fn bytes(self) -> [u8; PART]
         ensures { result ≡ part_bytes self }
     {

@@ -1,6 +1,6 @@
 // The judge of a row of pairs, whatever they and the lent verdicts are kept in. The row is gone through three times: for the ranges and
 // the highest numbers, for each pair's own verdict, and for the rules of the whole store. Pair 0 is the volume record.
-ghost use Rattle.std.specs.Prelude.{◌≡◌, ◌<◌, ◌≤◌, ◌==◌, ◌&&◌, nat_le, ℕ, Bool, List, if◌then◌else◌, length, map, true, Some, None, slice_get, slice_set};
+ghost use Rattle.std.specs.Prelude.{◌≡◌, ◌<◌, ◌≤◌, ◌==◌, ◌&&◌, nat_le, ℕ, Bool, List, if◌then◌else◌, length, map, true, Some, None, slice_get, slice_set, OnOk, OnErr};
 ghost use Rattle.std.specs.List.{list_all};
 ghost use Rattle.std.specs.Borrow.{GName};
 ghost use Rattle.judge.specs.declared.pairs.Pair.{Pair};
@@ -8,7 +8,7 @@ ghost use Rattle.judge.specs.declared.verdict.PairVerdict.{PairVerdict};
 ghost use Rattle.judge.specs.Maxima.{no_maxima, note_all};
 ghost use Rattle.judge.specs.Numbers.{slots};
 ghost use Rattle.judge.specs.Passes.{verdicts_by, no_tally, tallies, heals};
-ghost use Rattle.judge.specs.Judge.{last_verdicts, judgement, verdicts, error, unless, left};
+ghost use Rattle.judge.specs.Judge.{last_verdicts, judgement, verdicts, error, unless};
 
 use crate::numbers::Maxima;
 use crate::pairs::Pair;
@@ -104,7 +104,11 @@ fn first_pass<P: ReadPair, V: Verdicts>(pairs: &[P], m: Maxima, out: &mut V) -> 
 }
 
 // Makes each first verdict the last one, and answers the write to heal. The volume record has a rule of its own.
-fn second_pass<V: Verdicts>(rules: StoreRules, pairs: usize, out: &mut V) -> Option<(usize, SlotIndex)>
+fn second_pass<V: Verdicts>(
+    rules: StoreRules,
+    pairs: usize,
+    out: &mut V,
+) -> Option<(usize, SlotIndex)>
     requires room { length (V.cells out.old) ≡ pairs }
     requires hold { map V.cell (map V.read (V.cells out.old)) ≡ V.cells out.old }
     ensures room { length (V.cells out.new) ≡ length (V.cells out.old) }
@@ -131,7 +135,8 @@ pub(crate) fn judge<P: ReadPair, V: Verdicts>(
     out: &mut V,
 ) -> Result<Judgement, JudgeError>
     ensures value { result ≡ unless (error (length pairs.now == 0) true (V.fitting out.old (length pairs.now)) (nat_le clean 1 && list_all P.within pairs.now)) (judgement (map P.shown pairs.now) (clean == 1)) }
-    ensures cells { V.cells out.new ≡ left (error (length pairs.now == 0) true (V.fitting out.old (length pairs.now)) (nat_le clean 1 && list_all P.within pairs.now)) (map V.cell (verdicts (map P.shown pairs.now) (clean == 1))) (V.cells out.old) }
+    ensures cells { OnOk result (V.cells out.new ≡ map V.cell (verdicts (map P.shown pairs.now) (clean == 1))) }
+    ensures kept { OnErr result (out.new ≡ out.old) }
     ensures place { V.place out.new ≡ V.place out.old }
 {
     if pairs.is_empty() {

@@ -1,54 +1,36 @@
 -- The numbers of a pair's report and of the answers to its questions (docs/FORMAT.md, "Pairs"). A slot is 0 none, 1 A, 2 B.
-use Rattle.std.specs.Prelude.{List, [], ◌∷◌, ℕ, replicate}
-use Rattle.codec.specs.Bytes.{flag}
-use Rattle.slot.specs.Status.{slotNumber, code, infoValues}
+use Rattle.std.specs.Prelude.{List, [], ◌∷◌, ℕ, Option, Some, None}
+use Rattle.std.specs.Int.{from_bool}
+use Rattle.slot.specs.Numbers.{info_values}
+use Rattle.slot.specs.Status.{slot_number, code}
+use Rattle.slot.specs.declared.slot.SlotIndex.{SlotIndex}
+use Rattle.slot.specs.declared.slot.SlotInfo.{SlotInfo}
 use Rattle.pair.specs.declared.pair.Winner.{Winner}
 use Rattle.pair.specs.declared.pair.PairReport.{PairReport}
-use Rattle.pair.specs.declared.pair.WinnerInfo.{WinnerInfo}
-use Rattle.pair.specs.declared.pair.NextWrite.{NextWrite}
 
 -- The numbers of the judge's standings, and behind them 4 Empty and 5 Fork.
-abbrev pub winnerNumber : Winner → ℕ
-winnerNumber (Winner.Confirmed index) = 0
-winnerNumber (Winner.Unconfirmed index) = 1
-winnerNumber Winner.Lost = 2
-winnerNumber Winner.Refused = 3
-winnerNumber Winner.Empty = 4
-winnerNumber Winner.Fork = 5
+abbrev pub winner_number : Winner → ℕ
+winner_number (Winner.Confirmed index) = 0
+winner_number (Winner.Unconfirmed index) = 1
+winner_number Winner.Lost = 2
+winner_number Winner.Refused = 3
+winner_number Winner.Empty = 4
+winner_number Winner.Fork = 5
 
-abbrev pub winnerSlot : Winner → ℕ
-winnerSlot (Winner.Confirmed index) = slotNumber index
-winnerSlot (Winner.Unconfirmed index) = slotNumber index
-winnerSlot Winner.Lost = 0
-winnerSlot Winner.Refused = 0
-winnerSlot Winner.Empty = 0
-winnerSlot Winner.Fork = 0
+abbrev pub winner_slot : Winner → ℕ
+winner_slot (Winner.Confirmed index) = slot_number index
+winner_slot (Winner.Unconfirmed index) = slot_number index
+winner_slot Winner.Lost = 0
+winner_slot Winner.Refused = 0
+winner_slot Winner.Empty = 0
+winner_slot Winner.Fork = 0
 
--- The codes of A and of B, the winner's standing and slot (0 none, 1 A, 2 B), gap and chain break.
-unfoldable pub reportNumbers : PairReport → List ℕ
-reportNumbers r =
-    code r.a
-    ∷ code r.b
-    ∷ winnerNumber r.winner
-    ∷ winnerSlot r.winner
-    ∷ flag r.generation_gap
-    ∷ flag r.chain_break
-    ∷ []
+-- The codes of A and of B, the winner's standing and slot, gap and chain break.
+unfoldable pub report_numbers : PairReport → List ℕ
+report_numbers r =
+    code r.a ∷ code r.b ∷ winner_number r.winner ∷ winner_slot r.winner ∷ from_bool r.generation_gap ∷ from_bool r.chain_break ∷ []
 
--- The winner's slot.
-abbrev pub winnerIndex : WinnerInfo → ℕ
-winnerIndex WinnerInfo.Nothing = 0
-winnerIndex (WinnerInfo.Won index i) = slotNumber index
-
--- Its numbers, zeros without a winner.
-abbrev pub winnerValues : WinnerInfo → List ℕ
-winnerValues WinnerInfo.Nothing = replicate 9 0
-winnerValues (WinnerInfo.Won index i) = infoValues i
-
-abbrev pub infoNumbers : WinnerInfo → List ℕ
-infoNumbers won = winnerIndex won ∷ winnerValues won
-
--- The slot of the next write.
-abbrev pub nextNumber : NextWrite → ℕ
-nextNumber (NextWrite.Slot index) = slotNumber index
-nextNumber NextWrite.Nothing = 0
+-- The winner's slot and what is known of it; nothing behind the 0 without a winner.
+abbrev pub info_numbers : Option (SlotIndex × SlotInfo) → List ℕ
+info_numbers (Some won) = slot_number won.0 ∷ info_values won.1
+info_numbers None = 0 ∷ []

@@ -1,4 +1,5 @@
-// Layer 2: the current version of a pair of slots.
+// Layer 2: the current version of a pair of slots, and its payload.
 #![tactic(auto)]
 
 pub mod pair;
+pub mod winner;

@@ -1,24 +1,64 @@
 // Choosing the current version of an A/B slot pair.
 //
-// The winner is confirmed when the other slot is explained by an ordinary history: it is blank, torn, or an older valid version. It is
-// unconfirmed when the other slot cannot be read or holds something that an ordinary history never produces there. Two valid slots of
-// one generation are a fork, and a slot of a newer format makes the pair refused.
-ghost use Rattle.std.specs.Prelude.{◌≡◌, ◌<◌};
-ghost use Rattle.slot.specs.Status.{statusNumbers};
-ghost use Rattle.pair.specs.Numbers.{reportNumbers, infoNumbers, nextNumber};
-ghost use Rattle.pair.specs.Pair.{refused, explained, survivor, plain, ordered, twoValid, noneValid, decide, status, named, winnerInfo, nextWrite};
+// Each update of an object writes the slot that does not hold the current version, so after any crash at least one slot still holds a
+// complete version. `decide` picks it and says how sure it is, without ever rewriting either slot.
+//
+// The winner is confirmed when the other slot is explained by an ordinary history: it is blank (never written), torn (a header or payload
+// checksum that fails, which a crash during the latest write produces), or an older valid version. It is unconfirmed when the other slot
+// cannot be read or holds what an ordinary history never produces there (another volume's or object's slot, a misdirected slot, bytes that
+// are no slot, or impossible fields): the newer version may have been destroyed, so the caller must decide whether to trust the survivor.
+//
+// Two valid slots of one generation are a fork (two writers, or a replayed write), and no winner is chosen. A slot written by a newer format
+// makes the pair refused: this version neither reads nor overwrites it.
+ghost use Rattle.std.specs.Prelude.{◌≡◌};
+ghost use Rattle.slot.specs.Numbers.{choice_number};
+ghost use Rattle.pair.specs.Pair.{refused, explains_survivor, survivor, decide, status, winner_info, next_write};
+ghost use Rattle.pair.specs.Numbers.{report_numbers, info_numbers, winner_number, winner_slot};
+ghost use Rattle.pair.specs.Table.{BesideValid, NoneValid, TwoValid, WinnerNumbers};
 
-use slot::slot::{SlotIndex, SlotInfo, SlotStatus, ValidInfo};
+use slot::slot::{SlotIndex, SlotInfo, SlotStatus};
 
 // The chosen version of a pair, if any.
 #[derive(Clone, Copy)]
 pub enum Winner {
+    // Both slots are blank: the object was never written.
     Empty,
+    // The slot holds the current version and the other slot is explained.
     Confirmed(SlotIndex),
+    // The slot holds the newest readable version, but a newer one may have existed in the other slot.
     Unconfirmed(SlotIndex),
+    // Both slots are valid with the same generation.
     Fork,
+    // A slot uses a newer format or unknown incompatible features.
     Refused,
+    // Neither slot holds a valid version and they are not both blank.
     Lost,
+}
+
+impl Winner {
+    // The number of a standing: 0 to 3 as of a verdict, 4 Empty, 5 Fork.
+    pub fn number(self) -> u8
+        ensures { result ≡ winner_number self }
+    {
+        match self {
+            Winner::Confirmed(_) => 0,
+            Winner::Unconfirmed(_) => 1,
+            Winner::Lost => 2,
+            Winner::Refused => 3,
+            Winner::Empty => 4,
+            Winner::Fork => 5,
+        }
+    }
+
+    // The winner: 0 none, 1 A, 2 B.
+    pub fn slot(self) -> u8
+        ensures { result ≡ winner_slot self }
+    {
+        match self {
+            Winner::Confirmed(index) | Winner::Unconfirmed(index) => index.number(),
+            Winner::Lost | Winner::Refused | Winner::Empty | Winner::Fork => 0,
+        }
+    }
 }
 
 // Both slot statuses, the decision, and the anomalies found.
@@ -27,70 +67,92 @@ pub struct PairReport {
     pub a: SlotStatus,
     pub b: SlotStatus,
     pub winner: Winner,
-    // Both slots are valid but their generations are not consecutive.
+    // Both slots are valid but their generations are not consecutive: an update was lost or a slot was restored from elsewhere.
     pub generation_gap: bool,
-    // The generations are consecutive, and the winner does not record the other slot's header CRC.
+    // The winner does not record the other slot's header checksum as its predecessor although their generations are consecutive.
     pub chain_break: bool,
 }
 
-// The winning slot's facts, if a winner was chosen.
-#[derive(Clone, Copy)]
-pub enum WinnerInfo {
-    Won(SlotIndex, SlotInfo),
-    Nothing,
-}
-
-// Which slot the next update must write, if the pair may be written.
-#[derive(Clone, Copy)]
-pub enum NextWrite {
-    Slot(SlotIndex),
-    Nothing,
-}
-
 impl PairReport {
-    // The winning slot's facts, if a winner was chosen.
-    pub fn winner_info(self) -> WinnerInfo
-        ensures value { result ≡ winnerInfo self }
-        ensures result_value { infoNumbers result ≡ infoNumbers (winnerInfo self) }
+    // Both codes, the winner's number and slot, gap and chain break.
+    #[tactic(auto, unfolding(crate::specs::Numbers::report_numbers))]
+    pub fn numbers(self) -> [u8; 6]
+        ensures { result ≡ report_numbers self }
     {
-        let winner = self.winner;
-        match winner {
-            Winner::Confirmed(index) => named(index, self.status(index)),
-            Winner::Unconfirmed(index) => named(index, self.status(index)),
-            Winner::Empty => WinnerInfo::Nothing,
-            Winner::Fork => WinnerInfo::Nothing,
-            Winner::Refused => WinnerInfo::Nothing,
-            Winner::Lost => WinnerInfo::Nothing,
+        [
+            self.a.code(),
+            self.b.code(),
+            self.winner.number(),
+            self.winner.slot(),
+            u8::from(self.generation_gap),
+            u8::from(self.chain_break),
+        ]
+    }
+
+    // The winning slot's facts, if a winner was chosen.
+    pub fn winner_info(self) -> Option<(SlotIndex, SlotInfo)>
+        ensures value { result ≡ winner_info self }
+        ensures numbers { info_numbers result ≡ info_numbers (winner_info self) }
+    {
+        let index = match self.winner {
+            Winner::Confirmed(index) | Winner::Unconfirmed(index) => index,
+            _ => return None,
+        };
+        match self.status(index) {
+            SlotStatus::Valid(info) => Some((index, info)),
+            _ => None,
         }
     }
 
     // The status of one slot.
     pub fn status(self, index: SlotIndex) -> SlotStatus
-        ensures value { result ≡ status self index }
-        ensures result_value { statusNumbers result ≡ statusNumbers (status self index) }
+        ensures { result ≡ status self index }
     {
-        let a = self.a;
-        let b = self.b;
         match index {
-            SlotIndex::A => a,
-            SlotIndex::B => b,
+            SlotIndex::A => self.a,
+            SlotIndex::B => self.b,
         }
     }
 
-    // The slot that does not hold the winner; none for a fork, a refused or a lost pair.
-    pub fn next_write(self) -> NextWrite
-        ensures value { result ≡ nextWrite self }
-        ensures result_value { nextNumber result ≡ nextNumber (nextWrite self) }
+    // Which slot the next update must write: the one not holding the winner. `None` when the pair must not be written.
+    pub fn next_write(self) -> Option<SlotIndex>
+        ensures value { result ≡ next_write self }
+        ensures number { choice_number result ≡ choice_number (next_write self) }
     {
-        let winner = self.winner;
-        match winner {
-            Winner::Empty => NextWrite::Slot(SlotIndex::A),
-            Winner::Confirmed(index) => NextWrite::Slot(index.other()),
-            Winner::Unconfirmed(index) => NextWrite::Slot(index.other()),
-            Winner::Fork => NextWrite::Nothing,
-            Winner::Refused => NextWrite::Nothing,
-            Winner::Lost => NextWrite::Nothing,
+        match self.winner {
+            Winner::Empty => Some(SlotIndex::A),
+            Winner::Confirmed(index) | Winner::Unconfirmed(index) => Some(index.other()),
+            Winner::Fork | Winner::Refused | Winner::Lost => None,
         }
+    }
+}
+
+// How the other slot of a single valid survivor is explained.
+fn explains_survivor(other: &SlotStatus) -> bool
+    ensures { result ≡ explains_survivor other.now }
+{
+    matches!(
+        other,
+        SlotStatus::Blank | SlotStatus::BadHeaderCrc | SlotStatus::BadPayloadCrc
+    )
+}
+
+fn refused(s: &SlotStatus) -> bool
+    ensures { result ≡ refused s.now }
+{
+    matches!(
+        s,
+        SlotStatus::UnsupportedVersion { .. } | SlotStatus::Incompatible { .. }
+    )
+}
+
+fn survivor(index: SlotIndex, other: &SlotStatus) -> Winner
+    ensures { result ≡ survivor index other.now }
+{
+    if explains_survivor(other) {
+        Winner::Confirmed(index)
+    } else {
+        Winner::Unconfirmed(index)
     }
 }
 
@@ -98,127 +160,48 @@ impl PairReport {
 #[tactic(auto, unfolding(crate::specs::Pair::decide))]
 pub fn decide(a: SlotStatus, b: SlotStatus) -> PairReport
     ensures value { result ≡ decide a b }
-    ensures result_value { reportNumbers result ≡ reportNumbers (decide a b) }
+    ensures numbers { report_numbers result ≡ report_numbers (decide a b) }
 {
-    if refused(a) {
-        return plain(a, b, Winner::Refused);
-    }
-    if refused(b) {
-        return plain(a, b, Winner::Refused);
-    }
-    match a.info() {
-        ValidInfo::Info(ia) => match b.info() {
-            ValidInfo::Info(ib) => two_valid(a, b, ia, ib),
-            ValidInfo::Nothing => plain(a, b, survivor(SlotIndex::A, b)),
-        },
-        ValidInfo::Nothing => match b.info() {
-            ValidInfo::Info(_) => plain(a, b, survivor(SlotIndex::B, a)),
-            ValidInfo::Nothing => none_valid(a, b),
-        },
-    }
-}
-
-// A newer format, or features that this version does not understand.
-fn refused(s: SlotStatus) -> bool
-    ensures { result ≡ refused s }
-{
-    let code = s.code();
-    if code == 5 {
-        return true;
-    }
-    code == 6
-}
-
-// Whether an ordinary history explains the other slot of a single valid one.
-fn explains_survivor(other: SlotStatus) -> bool
-    ensures { result ≡ explained other }
-{
-    let code = other.code();
-    if code == 2 {
-        return true;
-    }
-    if code == 4 {
-        return true;
-    }
-    code == 11
-}
-
-fn survivor(index: SlotIndex, other: SlotStatus) -> Winner
-    ensures { result ≡ survivor index other }
-{
-    if explains_survivor(other) {
-        return Winner::Confirmed(index);
-    }
-    Winner::Unconfirmed(index)
-}
-
-// A report without anomalies.
-fn plain(a: SlotStatus, b: SlotStatus, winner: Winner) -> PairReport
-    ensures { result ≡ plain a b winner }
-{
-    PairReport {
+    let mut report = PairReport {
         a,
         b,
-        winner,
+        winner: Winner::Lost,
         generation_gap: false,
         chain_break: false,
+    };
+    if refused(&a) || refused(&b) {
+        report.winner = Winner::Refused;
+        return report;
     }
+    report.winner = match (a, b) {
+        (SlotStatus::Blank, SlotStatus::Blank) => Winner::Empty,
+        (SlotStatus::Valid(ia), SlotStatus::Valid(ib)) => {
+            if ia.generation == ib.generation {
+                Winner::Fork
+            } else {
+                let (index, newer, older) = if ia.generation > ib.generation {
+                    (SlotIndex::A, ia, ib)
+                } else {
+                    (SlotIndex::B, ib, ia)
+                };
+                let consecutive = newer.generation - older.generation == 1;
+                report.generation_gap = !consecutive;
+                report.chain_break = consecutive && newer.prev_header_crc32c != older.header_crc32c;
+                Winner::Confirmed(index)
+            }
+        }
+        (SlotStatus::Valid(_), other) => survivor(SlotIndex::A, &other),
+        (other, SlotStatus::Valid(_)) => survivor(SlotIndex::B, &other),
+        _ => Winner::Lost,
+    };
+    report
 }
 
-fn two_valid(a: SlotStatus, b: SlotStatus, ia: SlotInfo, ib: SlotInfo) -> PairReport
-    ensures { result ≡ twoValid a b ia ib }
-{
-    if ia.generation == ib.generation {
-        return plain(a, b, Winner::Fork);
-    }
-    if ib.generation < ia.generation {
-        return ordered(a, b, SlotIndex::A, ia, ib);
-    }
-    ordered(a, b, SlotIndex::B, ib, ia)
-}
-
-// Both slots are valid, and `newer` is the one at `index`.
-fn ordered(
-    a: SlotStatus,
-    b: SlotStatus,
-    index: SlotIndex,
-    newer: SlotInfo,
-    older: SlotInfo,
-) -> PairReport
-    requires { older.generation < newer.generation }
-    ensures { result ≡ ordered a b index newer older }
-{
-    let consecutive = newer.generation - older.generation == 1;
-    let linked = newer.prev_header_crc32c == older.header_crc32c;
-    let generation_gap = !consecutive;
-    let chain_break = consecutive && !linked;
-    PairReport {
-        a,
-        b,
-        winner: Winner::Confirmed(index),
-        generation_gap,
-        chain_break,
-    }
-}
-
-fn none_valid(a: SlotStatus, b: SlotStatus) -> PairReport
-    ensures { result ≡ noneValid a b }
-{
-    if a.code() != 2 {
-        return plain(a, b, Winner::Lost);
-    }
-    if b.code() != 2 {
-        return plain(a, b, Winner::Lost);
-    }
-    plain(a, b, Winner::Empty)
-}
-
-// The facts of the slot at `index`, where it is valid.
-fn named(index: SlotIndex, s: SlotStatus) -> WinnerInfo
-    ensures { result ≡ named index s }
-{
-    match s.info() {
-        ValidInfo::Info(info) => WinnerInfo::Won(index, info),
-        ValidInfo::Nothing => WinnerInfo::Nothing,
-    }
-}
+// What `decide` chooses, and which slot is written next, by the numbers of the statuses.
+#[tactic(auto, unfolding(crate::specs::Pair::decide, crate::specs::Numbers::report_numbers))]
+pub fn decide_table()
+    ensures beside_valid { BesideValid }
+    ensures none_valid { NoneValid }
+    ensures two_valid { TwoValid }
+    ensures winners { WinnerNumbers }
+{}

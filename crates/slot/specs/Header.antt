@@ -3,7 +3,6 @@ use Rattle.std.specs.Prelude.{◌≡◌, ℕ, List, [], ◌∷◌, length, take,
 use Rattle.std.specs.Int.{w8, w16, w32, w64}
 use Rattle.codec.specs.Bytes.{le}
 use Rattle.codec.specs.Cursor.{◌>>=◌, run, number}
-use Rattle.codec.specs.declared.codec.Reader.{Reader}
 use Rattle.slot.specs.declared.header.Header.{Header}
 
 -- `SIOSLOT` and a zero byte.

@@ -1,6 +1,6 @@
 -- What `validate` and `header_facts` answer for any bytes (docs/FORMAT.md, "Slot status" and "Header facts"): the checks in their order,
 -- each with the status that it fails with.
-use Rattle.std.specs.Prelude.{Bool, true, false, not, ◌&&◌, ◌||◌, List, ◌++◌, ℕ, ◌-◌, ◌^◌, ◌==◌, nat_eq, nat_lt, nat_le, if◌then◌else◌, length, take, drop, replicate, Option, Some, None, Result, Ok, Err, is_ok}
+use Rattle.std.specs.Prelude.{Bool, not, ◌&&◌, ◌||◌, List, ◌++◌, ℕ, ◌-◌, ◌^◌, ◌==◌, nat_eq, nat_lt, nat_le, if◌then◌else◌, length, take, drop, replicate, Option, Some, None, Result, Ok, Err, is_ok}
 use Rattle.std.specs.List.{list_all}
 use lib.Pointwise.{pointwise}
 use Rattle.codec.specs.Crc32c.{crc32c}

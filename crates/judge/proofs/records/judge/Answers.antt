@@ -1,10 +1,19 @@
 -- Every pair is in range, and a verdict is kept as it is.
 use Rattle.std.proofs.Common.{rules}
-use Rattle.judge.proofs.RowLaws.{all-true, map-same}
+use Rattle.judge.specs.Records.{judge_records, records_left}
+use Rattle.judge.proofs.RowLaws.{all-true, map-same, flag-back, left-after}
 use Rattle.judge.proofs.records.judge.Goals as goal
 
 pub returns-clause-value : goal.returns-clause-value
-returns-clause-value c = simp all-true at c.judge-judged.ensures.value
+unfolding judge_records
+returns-clause-value c =
+    let flag = flag-back c.args.clean_close in
+    simp (all-true, flag.0, flag.1) at c.judge-answer.ensures.value
 
 pub returns-clause-out_after : goal.returns-clause-out_after
-returns-clause-out_after c = let left = simp (all-true, map-same) at c.judge-judged.ensures.cells in search rules
+unfolding records_left
+returns-clause-out_after c =
+    let flag = flag-back c.args.clean_close in
+    let answer = simp (all-true, map-same, flag.0, flag.1) at c.judge-answer.ensures in
+    let after = left-after _ _ _ _ _ _ answer.value answer.cells (λ none done. done) answer.kept (λ k i. (k i).0.now) in
+    search rules

@@ -3,7 +3,9 @@ use Rattle.std.proofs.Common.{◌≡◌, sym, ap, ◌∙◌, ◌+◌, ◌<◌, �
 use Rattle.std.proofs.lemmas.List.{length-set}
 use Rattle.judge.specs.declared.verdict.PairVerdict.{PairVerdict}
 use Rattle.judge.specs.Verdict.{in_flight}
-use Rattle.judge.specs.Judge.{healOf, heals, last_verdicts}
+use Rattle.std.specs.Option.{option_or}
+use Rattle.judge.specs.Judge.{pair_heal, last_verdicts}
+use Rattle.judge.specs.Passes.{heals}
 use Rattle.judge.proofs.RowLaws.{settled, stayed, put-holds, idle, idle-heal}
 use Rattle.judge.proofs.row.second_pass.Goals as goal
 use Rattle.judge.proofs.row.second_pass.Goals.{then-in_flight, else-in_flight}
@@ -22,7 +24,7 @@ loop-i-preserved g c =
           w.put.ensures.cells in
           let left-heal = rw step.0 at l.invariant.heal in
           let left-cells = rw step.0 at l.invariant.written in record {
-            heal = rw (w.heal-is, w.out-is, ne_eqb (l.i + 1) 0 later, w.heal_or-heal.ensures, w.demoted_if-last.ensures, w.demotes.ensures) left-heal;
+            heal = rw (w.heal-is, w.out-is, ne_eqb (l.i + 1) 0 later, w.or-heal.ensures, w.heal.ensures, w.demoted_if-last.ensures, w.demotes.ensures) left-heal;
             room = rw (w.out-is, w.put.ensures.cells, length-set) l.invariant.room;
             written = rw (w.out-is, ne_eqb (l.i + 1) 0 later, step.1, append_assoc, w.demoted_if-last.ensures, w.demotes.ensures) left-cells;
             hold =
@@ -41,7 +43,7 @@ loop-i-preserved g c =
             heal =
                 rw (w.heal-is, w.out-is, ne_eqb (l.i + 1) 0 later)
                 (ap (λ h. heals (l.i + 1) h rest) (sym (idle-heal l.i l.heal v none))
-                ∙ ap (λ (u : PairVerdict). heals (l.i + 1) (healOf l.i l.heal u) rest) (sym (idle demote v none))
+                ∙ ap (λ (u : PairVerdict). heals (l.i + 1) (option_or (pair_heal l.i u) l.heal) rest) (sym (idle demote v none))
                 ∙ left-heal);
             room = rw w.out-is l.invariant.room;
             written =

@@ -1,6 +1,7 @@
 -- The verdicts that are left, after those settled so far, give the row's heal and last verdicts.
 use Rattle.std.proofs.Common.{◌≡◌, ◌++◌, cond, eqb, take, drop, map, length, None}
-use Rattle.judge.specs.Judge.{last_verdicts, heals}
+use Rattle.judge.specs.Judge.{last_verdicts}
+use Rattle.judge.specs.Passes.{heals}
 use Rattle.judge.proofs.row.second_pass.Given as goal
 
 abbrev pub invariant-loop-i : goal.invariant-loop-i

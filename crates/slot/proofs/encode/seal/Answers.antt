@@ -1,5 +1,5 @@
 -- `seal` meets its contract: the row of writes fills all of the header, so none is refused, and the checksum goes into its four bytes.
-use Rattle.std.proofs.Common.{◌≡◌, sym, ap, ap₂, ◌∙◌, ℕ, List, length, Option, Some, Ok, rules, length-append}
+use Rattle.std.proofs.Common.{◌≡◌, sym, ap, ap₂, ◌∙◌, ℕ, List, length, Some, Ok, rules, length-append}
 use Rattle.std.specs.List.{concat}
 use Rattle.std.specs.Int.{w32, to_le_bytes}
 use Rattle.codec.specs.Crc32c.{crc32c}

@@ -1,3 +1,0 @@
-pub mod Pairs
-pub mod Numbers
-pub mod Maxima

@@ -1,3 +1,0 @@
-pub mod Verdict
-pub mod Judge
-pub mod Passes
