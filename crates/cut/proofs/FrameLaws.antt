@@ -4,7 +4,7 @@ use Rattle.std.proofs.Common.{◌≡◌, refl, ap, Bool, true, false, cond, not,
 use Rattle.codec.specs.Bytes.{AllBytes, le32, same, allZero, flag}
 use Rattle.codec.proofs.CursorLaws.{le-lt}
 use Rattle.slot.specs.Status.{validInfo}
-use Rattle.slot.specs.Read.{magic, header, info, lengthOk, parseHeader, payloadOk, status as statusBy, validate, facts, headerFacts}
+use Rattle.slot.specs.Read.{magic, header, info, lengthOk, parseHeader, payloadOk, status as status_by, validate, facts, headerFacts}
 use Rattle.slot.specs.declared.slot.Expect.{Expect}
 use Rattle.slot.specs.declared.slot.SlotInfo.{SlotInfo}
 use Rattle.slot.specs.declared.slot.SlotStatus.{SlotStatus}
@@ -18,44 +18,44 @@ use Rattle.verdict.specs.Judge.{refusedRow, verdicts, judgeRow}
 use Rattle.judge_frames.specs.Frames.{verdictWidth, judged, judgedBytes}
 use Rattle.verdict.specs.declared.verdict.Judged.{Judged}
 use Rattle.judge_frames.proofs.FilledLaws.{Filled, AllFilled, filled-judged, filled-bytes}
-use Rattle.cut.specs.Store.{Every, Slot, Pair, status, numbersGiven, checksumGiven, filled, slotPart, pairPart, parts, frames, Typed}
-use Rattle.cut.proofs.StatusLaws.{parse-passed, validate-cases}
+use Rattle.cut.specs.Store.{Every, Slot, Pair, status, numbers_given, checksum_given, filled, slot_part, pair_part, parts, frames, Typed}
+use Rattle.cut.proofs.StatusLaws.{parse_passed, validate_cases}
 
 -- ---- what is read from bytes fits
 
 module _ (s : List ℕ) (e : Expect) (all : AllBytes s) where
-  header-fits : InfoFits (info (header s))
-  header-fits = record { generation = le-lt 8 s 56 all; number = le-lt 8 s 96 all; own = le-lt 4 s 8 all; prev = le-lt 4 s 80 all }
+  header_fits : InfoFits (info (header s))
+  header_fits = record { generation = le-lt 8 s 56 all; number = le-lt 8 s 96 all; own = le-lt 4 s 8 all; prev = le-lt 4 s 80 all }
 
-  passed-fits : (i : SlotInfo) (crc : ℕ) → parseHeader s e ≡ Parsed.Passed i crc → InfoFits i
-  passed-fits i crc parse = rw (parse-passed s e i crc parse).info-is header-fits
+  passed_fits : (i : SlotInfo) (crc : ℕ) → parseHeader s e ≡ Parsed.Passed i crc → InfoFits i
+  passed_fits i crc parse = rw (parse_passed s e i crc parse).info_is header_fits
 
-  valid-fits : ValidFits (validInfo (validate s e))
-  valid-fits =
-      validate-cases s e (validate s e) (ValidFits (validInfo (validate s e))) refl
+  valid_fits : ValidFits (validInfo (validate s e))
+  valid_fits =
+      validate_cases s e (validate s e) (ValidFits (validInfo (validate s e))) refl
       (λ is. rw (← is) ValidFits.nothing)
-      (λ length-is zeros-is is. rw (← is) ValidFits.nothing)
-      (λ length-is is. rw (← is) (by-header (parseHeader s e) refl))
+      (λ length_is zeros_is is. rw (← is) ValidFits.nothing)
+      (λ length_is is. rw (← is) (by_header (parseHeader s e) refl))
     where
-      by-payload : (ok : Bool) (i : SlotInfo) → InfoFits i → ValidFits (validInfo (cond ok (SlotStatus.Valid i) SlotStatus.BadPayloadCrc))
-      by-payload true i fits = ValidFits.valid fits
-      by-payload false i fits = ValidFits.nothing
+      by_payload : (ok : Bool) (i : SlotInfo) → InfoFits i → ValidFits (validInfo (cond ok (SlotStatus.Valid i) SlotStatus.BadPayloadCrc))
+      by_payload true i fits = ValidFits.valid fits
+      by_payload false i fits = ValidFits.nothing
 
-      by-failure : (f : SlotStatus) → Failure f → ValidFits (validInfo f)
-      by-failure f (Failure.failure from-1 not-blank not_valid) = rw not_valid ValidFits.nothing
+      by_failure : (f : SlotStatus) → Failure f → ValidFits (validInfo f)
+      by_failure f (Failure.failure from_1 not_blank not_valid) = rw not_valid ValidFits.nothing
 
-      by-header : (answer : Parsed) → parseHeader s e ≡ answer → ValidFits (validInfo (statusBy s answer))
-      by-header (Parsed.Failed f) parse = by-failure f (parse-failed s e f parse)
-      by-header (Parsed.Passed i crc) parse = by-payload (payloadOk s i crc) i (passed-fits i crc parse)
+      by_header : (answer : Parsed) → parseHeader s e ≡ answer → ValidFits (validInfo (status_by s answer))
+      by_header (Parsed.Failed f) parse = by_failure f (parse-failed s e f parse)
+      by_header (Parsed.Passed i crc) parse = by_payload (payloadOk s i crc) i (passed_fits i crc parse)
 
-  facts-fit : FactsFit (headerFacts s e)
+  facts_fit : FactsFit (headerFacts s e)
   unfolding headerFacts
-  facts-fit = go (lengthOk (length s) e.log2_slot_size) (allZero (take 128 s)) (same (take 8 s) magic)
+  facts_fit = go (lengthOk (length s) e.log2_slot_size) (allZero (take 128 s)) (same (take 8 s) magic)
     where
-      by-header : (answer : Parsed) → parseHeader s e ≡ answer → FactsFit (facts (le32 s 8) answer)
-      by-header (Parsed.Failed f) parse = FactsFit.stored (le-lt 4 s 8 all)
-      by-header (Parsed.Passed i crc) parse =
-          let fits = passed-fits i crc parse in
+      by_header : (answer : Parsed) → parseHeader s e ≡ answer → FactsFit (facts (le32 s 8) answer)
+      by_header (Parsed.Failed f) parse = FactsFit.stored (le-lt 4 s 8 all)
+      by_header (Parsed.Passed i crc) parse =
+          let fits = passed_fits i crc parse in
           FactsFit.numbered (le-lt 4 s 8 all) fits.generation fits.number fits.prev
 
       go : (long zeros stands : Bool)
@@ -65,29 +65,29 @@ module _ (s : List ℕ) (e : Expect) (all : AllBytes s) where
       go false zeros stands = FactsFit.nothing
       go true true stands = FactsFit.nothing
       go true false false = FactsFit.nothing
-      go true false true = by-header (parseHeader s e) refl
+      go true false true = by_header (parseHeader s e) refl
 
 -- ---- a slot's part
 
-either-below : (test : Bool) {x y bound : ℕ} → x < bound → y < bound → cond test x y < bound
-either-below true first second = first
-either-below false first second = second
+either_below : (test : Bool) {x y bound : ℕ} → x < bound → y < bound → cond test x y < bound
+either_below true first second = first
+either_below false first second = second
 
-slot-filled : (s : Slot) → Typed s → Filled (slotPart s)
-unfolding slotPart filled
-slot-filled s typed =
+slot_filled : (s : Slot) → Typed s → Filled (slot_part s)
+unfolding slot_part filled
+slot_filled s typed =
     let facts = headerFacts s.bytes s.expect in
     let given = part_of (status s) facts in
-    let fits = part-fits (status s) facts (valid-fits s.bytes s.expect typed.bytes) (facts-fit s.bytes s.expect typed.bytes) in
+    let fits = part-fits (status s) facts (valid_fits s.bytes s.expect typed.bytes) (facts_fit s.bytes s.expect typed.bytes) in
     record {
       fits =
           record {
             code = fits.code;
             facts = fits.facts;
-            generation = either-below (numbersGiven given) fits.generation typed.generation;
-            number = either-below (numbersGiven given) fits.number typed.number;
-            own = either-below (checksumGiven given) fits.own typed.own;
-            prev = either-below (numbersGiven given) fits.prev typed.prev;
+            generation = either_below (numbers_given given) fits.generation typed.generation;
+            number = either_below (numbers_given given) fits.number typed.number;
+            own = either_below (checksum_given given) fits.own typed.own;
+            prev = either_below (numbers_given given) fits.prev typed.prev;
           };
       range = part-range (status s) facts;
     }
@@ -98,25 +98,25 @@ pub record PairTyped (p : Pair) : Type 0 where
   pub a : Typed p.a
   pub b : Typed p.b
 
-row-filled : (ps : List Pair) → Every PairTyped ps → AllFilled (parts ps)
-unfolding pairPart
-row-filled [] typed = AllFilled.none
-row-filled (p ∷ ps) (Every.more first rest) = AllFilled.more (slot-filled p.a first.a) (slot-filled p.b first.b) (row-filled ps rest)
+row_filled : (ps : List Pair) → Every PairTyped ps → AllFilled (parts ps)
+unfolding pair_part
+row_filled [] typed = AllFilled.none
+row_filled (p ∷ ps) (Every.more first rest) = AllFilled.more (slot_filled p.a first.a) (slot_filled p.b first.b) (row_filled ps rest)
 
-length-parts : (ps : List Pair) → length (parts ps) ≡ length ps
-length-parts [] = refl
-length-parts (p ∷ ps) = ap suc (length-parts ps)
+length_parts : (ps : List Pair) → length (parts ps) ≡ length ps
+length_parts [] = refl
+length_parts (p ∷ ps) = ap suc (length_parts ps)
 
-pub not-refused : (n : ℕ) → 1 ≤ n → refusedRow n n ≡ 0
+pub not_refused : (n : ℕ) → 1 ≤ n → refusedRow n n ≡ 0
 unfolding refusedRow
-not-refused n some = let full : (n ≡ 0 → ⊥) = omega arith in simp (ne_eqb n 0 full, eq-eqb n n refl)
+not_refused n some = let full : (n ≡ 0 → ⊥) = omega arith in simp (ne_eqb n 0 full, eq-eqb n n refl)
 
 module _ (ps : List Pair) (typed : Every PairTyped ps) (some : 1 ≤ length ps) (mark : Bool) (out : List ℕ) (room : length out ≡ length ps * verdictWidth) where
-  nothing-refused : refusedRow (length (parts ps)) (length ps) ≡ 0
-  nothing-refused = rw (length-parts ps) (not-refused (length ps) some)
+  nothing_refused : refusedRow (length (parts ps)) (length ps) ≡ 0
+  nothing_refused = rw (length_parts ps) (not_refused (length ps) some)
 
-  pub judged-row : judged (frames ps) (flag mark) (length out) ≡ Judged.Done (judgeRow (parts ps) mark)
-  judged-row = simp (room, filled-judged (parts ps) (row-filled ps typed) mark (length ps), nothing-refused)
+  pub judged_row : judged (frames ps) (flag mark) (length out) ≡ Judged.Done (judgeRow (parts ps) mark)
+  judged_row = simp (room, filled-judged (parts ps) (row_filled ps typed) mark (length ps), nothing_refused)
 
-  pub judged-bytes : judgedBytes (frames ps) (flag mark) out ≡ verdictBytes (verdicts (parts ps) mark)
-  judged-bytes = simp (filled-bytes (parts ps) (row-filled ps typed) mark out (length ps) room, nothing-refused)
+  pub judged_bytes : judgedBytes (frames ps) (flag mark) out ≡ verdictBytes (verdicts (parts ps) mark)
+  judged_bytes = simp (filled-bytes (parts ps) (row_filled ps typed) mark out (length ps) room, nothing_refused)

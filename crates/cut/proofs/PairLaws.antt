@@ -22,92 +22,92 @@ use Rattle.candidate.specs.declared.pairs.MetaSeq.{MetaSeq}
 use Rattle.candidate.specs.declared.pairs.Opposite.{Opposite}
 use Rattle.candidate.specs.declared.pairs.PairCase.{PairCase}
 use Rattle.verdict.specs.declared.verdict.SlotVerdict.{SlotVerdict}
-use Rattle.cut.specs.Store.{Slot, Pair, accepts, slot_at, status, report, filled, slotPart, pairPart, lastRecord, Beside, SoundPair}
+use Rattle.cut.specs.Store.{Slot, Pair, accepts, slot_at, status, report, filled, slot_part, pair_part, last_record, Beside, SoundPair}
 use Rattle.cut.specs.Cut.{PayloadIs}
 use Rattle.cut.proofs.JudgeLaws.{Explained}
 
 -- ---- a slot's part, by its status
 
-failed-code : (c : ℕ) (f : HeaderFacts) → (failedPart c f).code ≡ c
-failed-code c HeaderFacts.Nothing = refl
-failed-code c (HeaderFacts.Stored crc) = refl
-failed-code c (HeaderFacts.Numbered crc n) = refl
+failed_code : (c : ℕ) (f : HeaderFacts) → (failedPart c f).code ≡ c
+failed_code c HeaderFacts.Nothing = refl
+failed_code c (HeaderFacts.Stored crc) = refl
+failed_code c (HeaderFacts.Numbered crc n) = refl
 
 record ValidPart (s : Slot) (i : SlotInfo) : Type 0 where
-  pub code : (slotPart s).code ≡ 12
-  pub generation : (slotPart s).generation ≡ i.generation
-  pub number : (slotPart s).meta_seq ≡ i.meta_seq
-  pub own : (slotPart s).header_crc32c ≡ i.header_crc32c
+  pub code : (slot_part s).code ≡ 12
+  pub generation : (slot_part s).generation ≡ i.generation
+  pub number : (slot_part s).meta_seq ≡ i.meta_seq
+  pub own : (slot_part s).header_crc32c ≡ i.header_crc32c
 
 record TornPart (s : Slot) (n : NumberedHeader) : Type 0 where
-  pub code : (slotPart s).code ≡ 11
-  pub facts : (slotPart s).facts ≡ 2
-  pub generation : (slotPart s).generation ≡ n.generation
-  pub number : (slotPart s).meta_seq ≡ n.meta_seq
-  pub prev : (slotPart s).prev_header_crc32c ≡ n.prev_header_crc32c
+  pub code : (slot_part s).code ≡ 11
+  pub facts : (slot_part s).facts ≡ 2
+  pub generation : (slot_part s).generation ≡ n.generation
+  pub number : (slot_part s).meta_seq ≡ n.meta_seq
+  pub prev : (slot_part s).prev_header_crc32c ≡ n.prev_header_crc32c
 
 record BadPart (s : Slot) : Type 0 where
-  pub code : (slotPart s).code ≡ 4
-  pub facts : (slotPart s).facts ≡ 1
+  pub code : (slot_part s).code ≡ 4
+  pub facts : (slot_part s).facts ≡ 1
 
 module _ (s : Slot) where
-  valid-part : (i : SlotInfo) → status s ≡ SlotStatus.Valid i → ValidPart s i
-  unfolding slotPart filled
-  valid-part i valid = record { code = simp valid; generation = simp valid; number = simp valid; own = simp valid }
+  valid_part : (i : SlotInfo) → status s ≡ SlotStatus.Valid i → ValidPart s i
+  unfolding slot_part filled
+  valid_part i valid = record { code = simp valid; generation = simp valid; number = simp valid; own = simp valid }
 
-  blank_part : status s ≡ SlotStatus.Blank → (slotPart s).code ≡ 2
-  unfolding slotPart filled
-  blank_part is = simp is (failed-code 2 (headerFacts s.bytes s.expect))
+  blank_part : status s ≡ SlotStatus.Blank → (slot_part s).code ≡ 2
+  unfolding slot_part filled
+  blank_part is = simp is (failed_code 2 (headerFacts s.bytes s.expect))
 
-  torn-part : (crc : ℕ) (n : NumberedHeader) → status s ≡ SlotStatus.BadPayloadCrc
+  torn_part : (crc : ℕ) (n : NumberedHeader) → status s ≡ SlotStatus.BadPayloadCrc
       → headerFacts s.bytes s.expect ≡ HeaderFacts.Numbered crc n → TornPart s n
-  unfolding slotPart filled
-  torn-part crc n is known =
+  unfolding slot_part filled
+  torn_part crc n is known =
       record { code = simp (is, known); facts = simp (is, known); generation = simp (is, known); number = simp (is, known); prev = simp (is, known) }
 
-  bad-part : (crc : ℕ) → status s ≡ SlotStatus.BadHeaderCrc → headerFacts s.bytes s.expect ≡ HeaderFacts.Stored crc → BadPart s
-  unfolding slotPart filled
-  bad-part crc is known = record { code = simp (is, known); facts = simp (is, known) }
+  bad_part : (crc : ℕ) → status s ≡ SlotStatus.BadHeaderCrc → headerFacts s.bytes s.expect ≡ HeaderFacts.Stored crc → BadPart s
+  unfolding slot_part filled
+  bad_part crc is known = record { code = simp (is, known); facts = simp (is, known) }
 
 -- ---- the pair's case
 
 abbrev pub part_at : SlotIndex → PairPart → SlotPart
 part_at index p = byIndex index p.a p.b
 
-part-at : (p : Pair) (index : SlotIndex) → part_at index (pairPart p) ≡ slotPart (slot_at index p)
-unfolding pairPart
-part-at p SlotIndex.A = refl
-part-at p SlotIndex.B = refl
+part_is : (p : Pair) (index : SlotIndex) → part_at index (pair_part p) ≡ slot_part (slot_at index p)
+unfolding pair_part
+part_is p SlotIndex.A = refl
+part_is p SlotIndex.B = refl
 
 module _ (p : PairPart) where
-  case-two : (w : SlotIndex) → (part_at w p).code ≡ 12 → (part_at (other w) p).code ≡ 12 → (part_at (other w) p).generation < (part_at w p).generation
+  case_two : (w : SlotIndex) → (part_at w p).code ≡ 12 → (part_at (other w) p).code ≡ 12 → (part_at (other w) p).generation < (part_at w p).generation
       → pairCase p ≡ PairCase.Won w Opposite.Nothing
   unfolding pairCase unsupported newer
-  case-two SlotIndex.A first second older =
+  case_two SlotIndex.A first second older =
       simp (first, second, ne_eqb p.a.generation p.b.generation (λ is. omega arith), lt-ltb p.b.generation p.a.generation older)
-  case-two SlotIndex.B first second older =
+  case_two SlotIndex.B first second older =
       let below : p.a.generation ≤ p.b.generation = omega arith in
       simp (first, second, ne_eqb p.a.generation p.b.generation (λ is. omega arith), le-ltb p.b.generation p.a.generation below)
 
-  case-alone : (w : SlotIndex) (c : ℕ) → (part_at w p).code ≡ 12 → (part_at (other w) p).code ≡ c
+  case_alone : (w : SlotIndex) (c : ℕ) → (part_at w p).code ≡ 12 → (part_at (other w) p).code ≡ c
       → eqb c 5 ≡ false → eqb c 6 ≡ false → eqb c 12 ≡ false
       → pairCase p ≡ PairCase.Won w (oppositeSlot w (part_at w p) (part_at (other w) p))
   unfolding pairCase unsupported
-  case-alone SlotIndex.A c first second not-5 not-6 not-12 = simp (first, second, not-5, not-6, not-12)
-  case-alone SlotIndex.B c first second not-5 not-6 not-12 = simp (first, second, not-5, not-6, not-12)
+  case_alone SlotIndex.A c first second not_5 not_6 not_12 = simp (first, second, not_5, not_6, not_12)
+  case_alone SlotIndex.B c first second not_5 not_6 not_12 = simp (first, second, not_5, not_6, not_12)
 
 -- The slot o beside the winner x.
 module _ (w : SlotIndex) (x o : SlotPart) where
-  opposite-blank : w ≡ SlotIndex.A → o.code ≡ 2 → x.generation ≡ 1 → oppositeSlot w x o ≡ Opposite.Nothing
+  opposite_blank : w ≡ SlotIndex.A → o.code ≡ 2 → x.generation ≡ 1 → oppositeSlot w x o ≡ Opposite.Nothing
   unfolding oppositeSlot blank
-  opposite-blank is-a is-blank first = rw is-a (simp (is-blank, first))
+  opposite_blank is_a is_blank first = rw is_a (simp (is_blank, first))
 
-  opposite-bad : o.code ≡ 4 → o.facts ≡ 1
+  opposite_bad : o.code ≡ 4 → o.facts ≡ 1
       → oppositeSlot w x o
       ≡ cond (cond (leb 2 x.generation) (eqb o.header_crc32c x.prev_header_crc32c) false) Opposite.OlderDamaged
       (Opposite.Candidate MetaSeq.Nothing)
   unfolding oppositeSlot badHeader
-  opposite-bad is-bad known = simp (is-bad, known) (go (leb 2 x.generation) (eqb o.header_crc32c x.prev_header_crc32c))
+  opposite_bad is_bad known = simp (is_bad, known) (go (leb 2 x.generation) (eqb o.header_crc32c x.prev_header_crc32c))
     where
       go : (second stored : Bool)
           → cond second (cond stored Opposite.OlderDamaged (Opposite.Candidate MetaSeq.Nothing)) (Opposite.Candidate MetaSeq.Nothing)
@@ -115,70 +115,70 @@ module _ (w : SlotIndex) (x o : SlotPart) where
       go true stored = refl
       go false stored = refl
 
-  opposite-new : o.code ≡ 11 → o.facts ≡ 2 → o.generation ≡ x.generation + 1 → o.prev_header_crc32c ≡ x.header_crc32c
+  opposite_new : o.code ≡ 11 → o.facts ≡ 2 → o.generation ≡ x.generation + 1 → o.prev_header_crc32c ≡ x.header_crc32c
       → oppositeSlot w x o ≡ Opposite.Candidate (MetaSeq.Number o.meta_seq)
   unfolding oppositeSlot badPayload
-  opposite-new is-torn known next linked =
-      let not-older : x.generation ≤ o.generation = omega arith in
-      simp (is-torn, known, le-ltb _ _ not-older, eq-eqb _ _ next, eq-eqb _ _ linked)
+  opposite_new is_torn known next linked =
+      let not_older : x.generation ≤ o.generation = omega arith in
+      simp (is_torn, known, le-ltb _ _ not_older, eq-eqb _ _ next, eq-eqb _ _ linked)
 
-  opposite-old : o.code ≡ 11 → o.facts ≡ 2 → o.generation < x.generation → oppositeSlot w x o ≡ Opposite.OlderDamaged
+  opposite_old : o.code ≡ 11 → o.facts ≡ 2 → o.generation < x.generation → oppositeSlot w x o ≡ Opposite.OlderDamaged
   unfolding oppositeSlot badPayload
-  opposite-old is-torn known older = simp (is-torn, known, lt-ltb _ _ older)
+  opposite_old is_torn known older = simp (is_torn, known, lt-ltb _ _ older)
 
 -- ---- the report, and the last written record
 
 module _ (p : Pair) where
-  won-two : (w : SlotIndex) (i j : SlotInfo) → status (slot_at w p) ≡ SlotStatus.Valid i → status (slot_at (other w) p) ≡ SlotStatus.Valid j
+  won_two : (w : SlotIndex) (i j : SlotInfo) → status (slot_at w p) ≡ SlotStatus.Valid i → status (slot_at (other w) p) ≡ SlotStatus.Valid j
       → j.generation < i.generation → winnerInfo (report p) ≡ WinnerInfo.Won w i
   unfolding readPair decide
-  won-two SlotIndex.A i j first second older =
+  won_two SlotIndex.A i j first second older =
       simp (first, second, ne_eqb i.generation j.generation (λ is. omega arith), lt-ltb j.generation i.generation older)
-  won-two SlotIndex.B i j first second older =
+  won_two SlotIndex.B i j first second older =
       let below : j.generation ≤ i.generation = omega arith in
       simp (first, second, ne_eqb j.generation i.generation (λ is. omega arith), le-ltb i.generation j.generation below)
 
-  won-alone : (w : SlotIndex) (i : SlotInfo) (beside : SlotStatus) → status (slot_at w p) ≡ SlotStatus.Valid i → status (slot_at (other w) p) ≡ beside
+  won_alone : (w : SlotIndex) (i : SlotInfo) (beside : SlotStatus) → status (slot_at w p) ≡ SlotStatus.Valid i → status (slot_at (other w) p) ≡ beside
       → refused beside ≡ false → validInfo beside ≡ ValidInfo.Nothing → explained beside ≡ true → winnerInfo (report p) ≡ WinnerInfo.Won w i
   unfolding readPair decide
-  won-alone SlotIndex.A i beside first second not-refused not_valid is-explained = simp (first, second, not-refused, not_valid, is-explained)
-  won-alone SlotIndex.B i beside first second not-refused not_valid is-explained = simp (first, second, not-refused, not_valid, is-explained)
+  won_alone SlotIndex.A i beside first second not_refused not_valid is_explained = simp (first, second, not_refused, not_valid, is_explained)
+  won_alone SlotIndex.B i beside first second not_refused not_valid is_explained = simp (first, second, not_refused, not_valid, is_explained)
 
   -- The part that `winner_payload` hands back is the payload in the winner's slot.
-  pub won-payload : (w : SlotIndex) (i : SlotInfo) → winnerInfo (report p) ≡ WinnerInfo.Won w i → PayloadIs p (payload i (slot_at w p).bytes)
+  pub won_payload : (w : SlotIndex) (i : SlotInfo) → winnerInfo (report p) ≡ WinnerInfo.Won w i → PayloadIs p (payload i (slot_at w p).bytes)
   unfolding payload
-  won-payload w i won a b part a-is b-is handed = by_index w (subst (λ (x : WinnerInfo). WinnerPart x a b part) won handed)
+  won_payload w i won a b part a_is b_is handed = by_index w (subst (λ (x : WinnerInfo). WinnerPart x a b part) won handed)
     where
       by_index : (w : SlotIndex) → WinnerPart (WinnerInfo.Won w i) a b part → part.now ≡ payload i (slot_at w p).bytes
-      by_index SlotIndex.A here = here.bytes ∙ ap (payload i) a-is
-      by_index SlotIndex.B here = here.bytes ∙ ap (payload i) b-is
+      by_index SlotIndex.A here = here.bytes ∙ ap (payload i) a_is
+      by_index SlotIndex.B here = here.bytes ∙ ap (payload i) b_is
 
-  last-two : (w : SlotIndex) (i j : SlotInfo) → status (slot_at w p) ≡ SlotStatus.Valid i → status (slot_at (other w) p) ≡ SlotStatus.Valid j
-      → j.generation < i.generation → lastRecord p ≡ payload i (slot_at w p).bytes
-  unfolding lastRecord
-  last-two SlotIndex.A i j first second older =
+  last_two : (w : SlotIndex) (i j : SlotInfo) → status (slot_at w p) ≡ SlotStatus.Valid i → status (slot_at (other w) p) ≡ SlotStatus.Valid j
+      → j.generation < i.generation → last_record p ≡ payload i (slot_at w p).bytes
+  unfolding last_record
+  last_two SlotIndex.A i j first second older =
       let below : j.generation ≤ i.generation = omega arith in
       simp (first, second, le-ltb i.generation j.generation below)
-  last-two SlotIndex.B i j first second older = simp (first, second, lt-ltb j.generation i.generation older)
+  last_two SlotIndex.B i j first second older = simp (first, second, lt-ltb j.generation i.generation older)
 
-  last-alone : (w : SlotIndex) (i : SlotInfo) → status (slot_at w p) ≡ SlotStatus.Valid i → status (slot_at (other w) p) ≡ SlotStatus.Blank
-      → lastRecord p ≡ payload i (slot_at w p).bytes
-  unfolding lastRecord
-  last-alone SlotIndex.A i first second = simp (first, second)
-  last-alone SlotIndex.B i first second = simp (first, second)
+  last_alone : (w : SlotIndex) (i : SlotInfo) → status (slot_at w p) ≡ SlotStatus.Valid i → status (slot_at (other w) p) ≡ SlotStatus.Blank
+      → last_record p ≡ payload i (slot_at w p).bytes
+  unfolding last_record
+  last_alone SlotIndex.A i first second = simp (first, second)
+  last_alone SlotIndex.B i first second = simp (first, second)
 
 -- A Blank slot counts for no number.
-pub blank-number : (p : Pair) (index : SlotIndex) → status (slot_at index p) ≡ SlotStatus.Blank → number (numbered (part_at index (pairPart p))) ≡ 0
+pub blank_number : (p : Pair) (index : SlotIndex) → status (slot_at index p) ≡ SlotStatus.Blank → number (numbered (part_at index (pair_part p))) ≡ 0
 unfolding numbered
-blank-number p index is =
-    let code : (part_at index (pairPart p)).code ≡ 2 = ap (λ (s : SlotPart). s.code) (part-at p index) ∙ blank_part (slot_at index p) is in
+blank_number p index is =
+    let code : (part_at index (pair_part p)).code ≡ 2 = ap (λ (s : SlotPart). s.code) (part_is p index) ∙ blank_part (slot_at index p) is in
     simp code
 
 -- ---- a pair whose winner stands
 
 -- The winner w beside a slot of verdict v, where `qualifies` says which numbers qualify; the record that is read back.
 pub record Stands (p : Pair) (qualifies : SlotIndex → MetaSeq → Bool) (w : SlotIndex) (v : SlotVerdict) (r : List ℕ) : Type 0 where
-  pub verdict : pairVerdict qualifies (pairCase (pairPart p)) ≡ winnerBeside w v
+  pub verdict : pairVerdict qualifies (pairCase (pair_part p)) ≡ winnerBeside w v
   pub info : SlotInfo
   pub won : winnerInfo (report p) ≡ WinnerInfo.Won w info
   pub part : PayloadIs p r
@@ -186,127 +186,127 @@ pub record Stands (p : Pair) (qualifies : SlotIndex → MetaSeq → Bool) (w : S
 
 module _ (p : Pair) (w : SlotIndex) (i : SlotInfo) (valid : status (slot_at w p) ≡ SlotStatus.Valid i) where
   abbrev x : SlotPart
-  x = part_at w (pairPart p)
+  x = part_at w (pair_part p)
 
   abbrev o : SlotPart
-  o = part_at (other w) (pairPart p)
+  o = part_at (other w) (pair_part p)
 
-  winner-part : ValidPart (slot_at w p) i
-  winner-part = valid-part (slot_at w p) i valid
+  winner_part : ValidPart (slot_at w p) i
+  winner_part = valid_part (slot_at w p) i valid
 
-  x-code : x.code ≡ 12
-  x-code = ap (λ (s : SlotPart). s.code) (part-at p w) ∙ winner-part.code
+  x_code : x.code ≡ 12
+  x_code = ap (λ (s : SlotPart). s.code) (part_is p w) ∙ winner_part.code
 
-  x-generation : x.generation ≡ i.generation
-  x-generation = ap (λ (s : SlotPart). s.generation) (part-at p w) ∙ winner-part.generation
+  x_generation : x.generation ≡ i.generation
+  x_generation = ap (λ (s : SlotPart). s.generation) (part_is p w) ∙ winner_part.generation
 
-  x-own : x.header_crc32c ≡ i.header_crc32c
-  x-own = ap (λ (s : SlotPart). s.header_crc32c) (part-at p w) ∙ winner-part.own
+  x_own : x.header_crc32c ≡ i.header_crc32c
+  x_own = ap (λ (s : SlotPart). s.header_crc32c) (part_is p w) ∙ winner_part.own
 
   -- A Valid slot counts for its number.
-  pub valid-number : number (numbered (part_at w (pairPart p))) ≡ i.meta_seq
+  pub valid_number : number (numbered (part_at w (pair_part p))) ≡ i.meta_seq
   unfolding numbered
-  valid-number = simp x-code (ap (λ (s : SlotPart). s.meta_seq) (part-at p w) ∙ winner-part.number)
+  valid_number = simp x_code (ap (λ (s : SlotPart). s.meta_seq) (part_is p w) ∙ winner_part.number)
 
   module _ (qualifies : SlotIndex → MetaSeq → Bool) (takes : accepts p.decoder (payload i (slot_at w p).bytes) ≡ true) where
     abbrev lead : SlotVerdict → Type 0
     lead v = Stands p qualifies w v (payload i (slot_at w p).bytes)
 
-    stands : {v : SlotVerdict} → pairVerdict qualifies (pairCase (pairPart p)) ≡ winnerBeside w v → winnerInfo (report p) ≡ WinnerInfo.Won w i → lead v
-    stands verdict won = record { verdict = verdict; info = i; won = won; part = won-payload p w i won; accepted = takes }
+    stands : {v : SlotVerdict} → pairVerdict qualifies (pairCase (pair_part p)) ≡ winnerBeside w v → winnerInfo (report p) ≡ WinnerInfo.Won w i → lead v
+    stands verdict won = record { verdict = verdict; info = i; won = won; part = won_payload p w i won; accepted = takes }
 
     -- Two Valid slots.
-    pub beside-valid : (j : SlotInfo) → status (slot_at (other w) p) ≡ SlotStatus.Valid j → j.generation < i.generation
+    pub beside_valid : (j : SlotInfo) → status (slot_at (other w) p) ≡ SlotStatus.Valid j → j.generation < i.generation
         → Stands p qualifies w SlotVerdict.Nothing (payload i (slot_at w p).bytes)
-    beside-valid j second older =
-        let other-part = valid-part (slot_at (other w) p) j second in
-        let o-code : o.code ≡ 12 = ap (λ (s : SlotPart). s.code) (part-at p (other w)) ∙ other-part.code in
-        let o-generation : o.generation ≡ j.generation = ap (λ (s : SlotPart). s.generation) (part-at p (other w)) ∙ other-part.generation in
-        let below : o.generation < x.generation = omega (arith, x-generation) in
-        stands (ap (pairVerdict qualifies) (case-two (pairPart p) w x-code o-code below)) (won-two p w i j valid second older)
+    beside_valid j second older =
+        let other_part = valid_part (slot_at (other w) p) j second in
+        let o_code : o.code ≡ 12 = ap (λ (s : SlotPart). s.code) (part_is p (other w)) ∙ other_part.code in
+        let o_generation : o.generation ≡ j.generation = ap (λ (s : SlotPart). s.generation) (part_is p (other w)) ∙ other_part.generation in
+        let below : o.generation < x.generation = omega (arith, x_generation) in
+        stands (ap (pairVerdict qualifies) (case_two (pair_part p) w x_code o_code below)) (won_two p w i j valid second older)
 
     -- A Blank B beside an A of generation 1.
-    pub beside-blank : w ≡ SlotIndex.A → i.generation ≡ 1 → status (slot_at (other w) p) ≡ SlotStatus.Blank
+    pub beside_blank : w ≡ SlotIndex.A → i.generation ≡ 1 → status (slot_at (other w) p) ≡ SlotStatus.Blank
         → Stands p qualifies w SlotVerdict.Nothing (payload i (slot_at w p).bytes)
-    beside-blank is-a first second =
-        let o-code : o.code ≡ 2 = ap (λ (s : SlotPart). s.code) (part-at p (other w)) ∙ blank_part (slot_at (other w) p) second in
-        let alone = case-alone (pairPart p) w 2 x-code o-code refl refl refl in
-        let nothing = opposite-blank w x o is-a o-code (x-generation ∙ first) in
-        stands (ap (pairVerdict qualifies) (alone ∙ ap (PairCase.Won w) nothing)) (won-alone p w i SlotStatus.Blank valid second refl refl refl)
+    beside_blank is_a first second =
+        let o_code : o.code ≡ 2 = ap (λ (s : SlotPart). s.code) (part_is p (other w)) ∙ blank_part (slot_at (other w) p) second in
+        let alone = case_alone (pair_part p) w 2 x_code o_code refl refl refl in
+        let nothing = opposite_blank w x o is_a o_code (x_generation ∙ first) in
+        stands (ap (pairVerdict qualifies) (alone ∙ ap (PairCase.Won w) nothing)) (won_alone p w i SlotStatus.Blank valid second refl refl refl)
 
     -- A header that fails its checksum: the winner's predecessor, if its stored checksum is the winner's previous one.
-    pub beside-bad : (crc : ℕ) → status (slot_at (other w) p) ≡ SlotStatus.BadHeaderCrc
+    pub beside_bad : (crc : ℕ) → status (slot_at (other w) p) ≡ SlotStatus.BadHeaderCrc
         → headerFacts (slot_at (other w) p).bytes (slot_at (other w) p).expect ≡ HeaderFacts.Stored crc
         → (qualifies (other w) MetaSeq.Nothing ≡ true)
         → (v : SlotVerdict) × Explained v × Stands p qualifies w v (payload i (slot_at w p).bytes)
-    beside-bad crc second known unread = go (cond (leb 2 x.generation) (eqb o.header_crc32c x.prev_header_crc32c) false) refl
+    beside_bad crc second known unread = go (cond (leb 2 x.generation) (eqb o.header_crc32c x.prev_header_crc32c) false) refl
       where
-        o-part : BadPart (slot_at (other w) p)
-        o-part = bad-part (slot_at (other w) p) crc second known
+        o_part : BadPart (slot_at (other w) p)
+        o_part = bad_part (slot_at (other w) p) crc second known
 
-        o-code : o.code ≡ 4
-        o-code = ap (λ (s : SlotPart). s.code) (part-at p (other w)) ∙ o-part.code
+        o_code : o.code ≡ 4
+        o_code = ap (λ (s : SlotPart). s.code) (part_is p (other w)) ∙ o_part.code
 
-        o-facts : o.facts ≡ 1
-        o-facts = ap (λ (s : SlotPart). s.facts) (part-at p (other w)) ∙ o-part.facts
+        o_facts : o.facts ≡ 1
+        o_facts = ap (λ (s : SlotPart). s.facts) (part_is p (other w)) ∙ o_part.facts
 
-        by-test : (test : Bool) → cond (leb 2 x.generation) (eqb o.header_crc32c x.prev_header_crc32c) false ≡ test
-            → pairCase (pairPart p) ≡ PairCase.Won w (cond test Opposite.OlderDamaged (Opposite.Candidate MetaSeq.Nothing))
-        by-test test is =
-            case-alone (pairPart p) w 4 x-code o-code refl refl refl
-            ∙ ap (PairCase.Won w) (opposite-bad w x o o-code o-facts ∙ ap (λ (b : Bool). cond b Opposite.OlderDamaged (Opposite.Candidate MetaSeq.Nothing)) is)
+        by_test : (test : Bool) → cond (leb 2 x.generation) (eqb o.header_crc32c x.prev_header_crc32c) false ≡ test
+            → pairCase (pair_part p) ≡ PairCase.Won w (cond test Opposite.OlderDamaged (Opposite.Candidate MetaSeq.Nothing))
+        by_test test is =
+            case_alone (pair_part p) w 4 x_code o_code refl refl refl
+            ∙ ap (PairCase.Won w) (opposite_bad w x o o_code o_facts ∙ ap (λ (b : Bool). cond b Opposite.OlderDamaged (Opposite.Candidate MetaSeq.Nothing)) is)
 
         won : winnerInfo (report p) ≡ WinnerInfo.Won w i
-        won = won-alone p w i SlotStatus.BadHeaderCrc valid second refl refl refl
+        won = won_alone p w i SlotStatus.BadHeaderCrc valid second refl refl refl
 
         go : (test : Bool) → cond (leb 2 x.generation) (eqb o.header_crc32c x.prev_header_crc32c) false ≡ test
             → (v : SlotVerdict) × Explained v × Stands p qualifies w v (payload i (slot_at w p).bytes)
-        go true is = (SlotVerdict.OlderDamaged, Explained.older-damaged, stands (ap (pairVerdict qualifies) (by-test true is)) won)
+        go true is = (SlotVerdict.OlderDamaged, Explained.older_damaged, stands (ap (pairVerdict qualifies) (by_test true is)) won)
         go false is =
             let candidate =
-            ap (pairVerdict qualifies) (by-test false is)
+            ap (pairVerdict qualifies) (by_test false is)
             ∙ ap (λ (b : Bool). winnerBeside w (cond b SlotVerdict.InFlight SlotVerdict.Damage)) unread in
-            (SlotVerdict.InFlight, Explained.in-flight, stands candidate won)
+            (SlotVerdict.InFlight, Explained.in_flight, stands candidate won)
 
     -- A header that passes every check, over a payload that fails its checksum.
     module _ (crc : ℕ) (n : NumberedHeader) (second : status (slot_at (other w) p) ≡ SlotStatus.BadPayloadCrc)
         (known : headerFacts (slot_at (other w) p).bytes (slot_at (other w) p).expect ≡ HeaderFacts.Numbered crc n) where
-      o-part : TornPart (slot_at (other w) p) n
-      o-part = torn-part (slot_at (other w) p) crc n second known
+      o_part : TornPart (slot_at (other w) p) n
+      o_part = torn_part (slot_at (other w) p) crc n second known
 
-      o-code : o.code ≡ 11
-      o-code = ap (λ (s : SlotPart). s.code) (part-at p (other w)) ∙ o-part.code
+      o_code : o.code ≡ 11
+      o_code = ap (λ (s : SlotPart). s.code) (part_is p (other w)) ∙ o_part.code
 
-      o-facts : o.facts ≡ 2
-      o-facts = ap (λ (s : SlotPart). s.facts) (part-at p (other w)) ∙ o-part.facts
+      o_facts : o.facts ≡ 2
+      o_facts = ap (λ (s : SlotPart). s.facts) (part_is p (other w)) ∙ o_part.facts
 
-      o-generation : o.generation ≡ n.generation
-      o-generation = ap (λ (s : SlotPart). s.generation) (part-at p (other w)) ∙ o-part.generation
+      o_generation : o.generation ≡ n.generation
+      o_generation = ap (λ (s : SlotPart). s.generation) (part_is p (other w)) ∙ o_part.generation
 
-      torn-case : pairCase (pairPart p) ≡ PairCase.Won w (oppositeSlot w x o)
-      torn-case = case-alone (pairPart p) w 11 x-code o-code refl refl refl
+      torn_case : pairCase (pair_part p) ≡ PairCase.Won w (oppositeSlot w x o)
+      torn_case = case_alone (pair_part p) w 11 x_code o_code refl refl refl
 
-      torn-won : winnerInfo (report p) ≡ WinnerInfo.Won w i
-      torn-won = won-alone p w i SlotStatus.BadPayloadCrc valid second refl refl refl
+      torn_won : winnerInfo (report p) ≡ WinnerInfo.Won w i
+      torn_won = won_alone p w i SlotStatus.BadPayloadCrc valid second refl refl refl
 
       -- The write itself.
-      pub beside-new : n.generation ≡ i.generation + 1 → n.prev_header_crc32c ≡ i.header_crc32c
+      pub beside_new : n.generation ≡ i.generation + 1 → n.prev_header_crc32c ≡ i.header_crc32c
           → qualifies (other w) (MetaSeq.Number n.meta_seq) ≡ true → Stands p qualifies w SlotVerdict.InFlight (payload i (slot_at w p).bytes)
-      beside-new next linked qualified =
-          let o-prev : o.prev_header_crc32c ≡ n.prev_header_crc32c =
-          ap (λ (s : SlotPart). s.prev_header_crc32c) (part-at p (other w)) ∙ o-part.prev in
-          let o-number : o.meta_seq ≡ n.meta_seq = ap (λ (s : SlotPart). s.meta_seq) (part-at p (other w)) ∙ o-part.number in
-          let candidate = opposite-new w x o o-code o-facts (omega (arith, o-generation, x-generation)) (o-prev ∙ linked ∙ sym x-own) in
+      beside_new next linked qualified =
+          let o_prev : o.prev_header_crc32c ≡ n.prev_header_crc32c =
+          ap (λ (s : SlotPart). s.prev_header_crc32c) (part_is p (other w)) ∙ o_part.prev in
+          let o_number : o.meta_seq ≡ n.meta_seq = ap (λ (s : SlotPart). s.meta_seq) (part_is p (other w)) ∙ o_part.number in
+          let candidate = opposite_new w x o o_code o_facts (omega (arith, o_generation, x_generation)) (o_prev ∙ linked ∙ sym x_own) in
           stands
-          (ap (pairVerdict qualifies) (torn-case ∙ ap (PairCase.Won w) (candidate ∙ ap (λ (m : ℕ). Opposite.Candidate (MetaSeq.Number m)) o-number))
+          (ap (pairVerdict qualifies) (torn_case ∙ ap (PairCase.Won w) (candidate ∙ ap (λ (m : ℕ). Opposite.Candidate (MetaSeq.Number m)) o_number))
           ∙ ap (λ (b : Bool). winnerBeside w (cond b SlotVerdict.InFlight SlotVerdict.Damage)) qualified)
-          torn-won
+          torn_won
 
       -- The older version.
-      pub beside-old : n.generation < i.generation → Stands p qualifies w SlotVerdict.OlderDamaged (payload i (slot_at w p).bytes)
-      beside-old older =
-          let damaged = opposite-old w x o o-code o-facts (omega (arith, o-generation, x-generation)) in
-          stands (ap (pairVerdict qualifies) (torn-case ∙ ap (PairCase.Won w) damaged)) torn-won
+      pub beside_old : n.generation < i.generation → Stands p qualifies w SlotVerdict.OlderDamaged (payload i (slot_at w p).bytes)
+      beside_old older =
+          let damaged = opposite_old w x o o_code o_facts (omega (arith, o_generation, x_generation)) in
+          stands (ap (pairVerdict qualifies) (torn_case ∙ ap (PairCase.Won w) damaged)) torn_won
 
 -- ---- a sound pair
 
@@ -314,37 +314,37 @@ module _ (p : Pair) (sound : SoundPair p) where
   abbrev w : SlotIndex
   w = sound.newer
 
-  pub last-is : lastRecord p ≡ payload sound.info (slot_at sound.newer p).bytes
-  last-is = go sound.beside
+  pub last_is : last_record p ≡ payload sound.info (slot_at sound.newer p).bytes
+  last_is = go sound.beside
     where
-      go : Beside p w sound.info → lastRecord p ≡ payload sound.info (slot_at w p).bytes
-      go (Beside.first is-a first second) = last-alone p w sound.info sound.valid second
-      go (Beside.both j second next higher linked takes) = last-two p w sound.info j sound.valid second (omega arith)
+      go : Beside p w sound.info → last_record p ≡ payload sound.info (slot_at w p).bytes
+      go (Beside.first is_a first second) = last_alone p w sound.info sound.valid second
+      go (Beside.both j second next higher linked takes) = last_two p w sound.info j sound.valid second (omega arith)
 
-  pub sound-won : winnerInfo (report p) ≡ WinnerInfo.Won sound.newer sound.info
-  sound-won = go sound.beside
+  pub sound_won : winnerInfo (report p) ≡ WinnerInfo.Won sound.newer sound.info
+  sound_won = go sound.beside
     where
       go : Beside p w sound.info → winnerInfo (report p) ≡ WinnerInfo.Won w sound.info
-      go (Beside.first is-a first second) = won-alone p w sound.info SlotStatus.Blank sound.valid second refl refl refl
-      go (Beside.both j second next higher linked takes) = won-two p w sound.info j sound.valid second (omega arith)
+      go (Beside.first is_a first second) = won_alone p w sound.info SlotStatus.Blank sound.valid second refl refl refl
+      go (Beside.both j second next higher linked takes) = won_two p w sound.info j sound.valid second (omega arith)
 
-  pub sound-stands : (qualifies : SlotIndex → MetaSeq → Bool) → Stands p qualifies sound.newer SlotVerdict.Nothing (lastRecord p)
-  sound-stands qualifies = rw last-is (go sound.beside)
+  pub sound_stands : (qualifies : SlotIndex → MetaSeq → Bool) → Stands p qualifies sound.newer SlotVerdict.Nothing (last_record p)
+  sound_stands qualifies = rw last_is (go sound.beside)
     where
       go : Beside p w sound.info → Stands p qualifies w SlotVerdict.Nothing (payload sound.info (slot_at w p).bytes)
-      go (Beside.first is-a first second) = beside-blank p w sound.info sound.valid qualifies sound.accepted is-a first second
+      go (Beside.first is_a first second) = beside_blank p w sound.info sound.valid qualifies sound.accepted is_a first second
       go (Beside.both j second next higher linked takes) =
-          beside-valid p w sound.info sound.valid qualifies sound.accepted j second (omega arith)
+          beside_valid p w sound.info sound.valid qualifies sound.accepted j second (omega arith)
 
   -- The slot beside the winner counts for no higher number.
-  pub sound-number : number (numbered (part_at (other sound.newer) (pairPart p))) ≤ number (numbered (part_at sound.newer (pairPart p)))
-  sound-number = go sound.beside
+  pub sound_number : number (numbered (part_at (other sound.newer) (pair_part p))) ≤ number (numbered (part_at sound.newer (pair_part p)))
+  sound_number = go sound.beside
     where
-      go : Beside p w sound.info → number (numbered (part_at (other w) (pairPart p))) ≤ number (numbered (part_at w (pairPart p)))
-      go (Beside.first is-a first second) =
-          let none = blank-number p (other w) second in
+      go : Beside p w sound.info → number (numbered (part_at (other w) (pair_part p))) ≤ number (numbered (part_at w (pair_part p)))
+      go (Beside.first is_a first second) =
+          let none = blank_number p (other w) second in
           omega arith
       go (Beside.both j second next higher linked takes) =
-          let newer-number = valid-number p w sound.info sound.valid in
-          let older-number = valid-number p (other w) j second in
+          let newer_number = valid_number p w sound.info sound.valid in
+          let older_number = valid_number p (other w) j second in
           omega arith

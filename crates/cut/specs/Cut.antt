@@ -4,7 +4,7 @@
 --
 -- The definitions of other crates that are named here are those that the contracts of `encode`, `validate`, `header_facts`, `judge`, the
 -- winner's payload and the decoders state.
-use Rattle.std.specs.Prelude.{◌≡◌, ◌⊎◌, Bool, true, false, cond, List, [], ◌∷◌, ◌++◌, ℕ, ◌+◌, ◌*◌, ◌^◌, ◌≤◌, ◌<◌, ltb, eqb, length, take, drop}
+use Rattle.std.specs.Prelude.{◌≡◌, ◌⊎◌, Bool, true, false, ◌||◌, if◌then◌else◌, List, [], ◌∷◌, ◌++◌, ℕ, ◌+◌, ◌*◌, ◌^◌, ◌≤◌, ◌<◌, nat_lt, ◌==◌, length, take, drop}
 use Rattle.std.specs.Borrow.{Bor}
 use Rattle.codec.specs.Bytes.{AllBytes, le16, le32, same, flag}
 use Rattle.codec.specs.Crc32c.{crc32c}
@@ -28,7 +28,7 @@ use Rattle.verdict.specs.declared.verdict.Judgement.{Judgement}
 use Rattle.judge_frames.specs.Frames.{verdictWidth, judged, judgedBytes}
 use Rattle.judge.specs.Row.{rowJudged, rowVerdicts}
 use Rattle.verdict.specs.declared.verdict.Judged.{Judged}
-use Rattle.cut.specs.Store.{Every, Slot, Pair, accepts, cleanMark, slot_at, report, parts, frames, reads, lastRecord, lastRecords, storeMark, Sound}
+use Rattle.cut.specs.Store.{Every, Slot, Pair, accepts, clean_mark, slot_at, report, parts, frames, reads, last_record, last_records, store_mark, Sound}
 
 -- ---- the write and the cut
 
@@ -67,16 +67,16 @@ cut k new old = take k new ++ drop k old
 abbrev pub left : Write → List ℕ
 left w = cut w.k (new w) (old w)
 
-abbrev pub withBytes : List ℕ → Slot → Slot
-withBytes bytes s = record { bytes = bytes; expect = s.expect; rest = s.rest }
+abbrev pub with_bytes : List ℕ → Slot → Slot
+with_bytes bytes s = record { bytes = bytes; expect = s.expect; rest = s.rest }
 
-abbrev pub withSlot : SlotIndex → List ℕ → Pair → Pair
-withSlot SlotIndex.A bytes p = record { a = withBytes bytes p.a; b = p.b; decoder = p.decoder }
-withSlot SlotIndex.B bytes p = record { a = p.a; b = withBytes bytes p.b; decoder = p.decoder }
+abbrev pub with_slot : SlotIndex → List ℕ → Pair → Pair
+with_slot SlotIndex.A bytes p = record { a = with_bytes bytes p.a; b = p.b; decoder = p.decoder }
+with_slot SlotIndex.B bytes p = record { a = p.a; b = with_bytes bytes p.b; decoder = p.decoder }
 
 -- The store after the cut: every other slot is as it was.
 abbrev pub after : Write → List Pair
-after w = w.before ++ withSlot w.index (left w) w.pair ∷ w.behind
+after w = w.before ++ with_slot w.index (left w) w.pair ∷ w.behind
 
 -- k is 0 or from 8 to the slot's size: of one to seven bytes nothing is said.
 abbrev pub CutPoint : ℕ → ℕ → Type 0
@@ -95,7 +95,7 @@ pub record CorrectWrite (w : Write) : Type 0 where
   pub index : w.fields.slot_index ≡ (expect w).slot_index
   pub log2 : w.fields.log2_slot_size ≡ (expect w).log2_slot_size
   pub generation : w.fields.generation ≡ winner.generation + 1
-  pub generation-fits : w.fields.generation < 2 ^ 64
+  pub generation_fits : w.fields.generation < 2 ^ 64
   pub prev : w.fields.prev_header_crc32c ≡ winner.header_crc32c
   pub number : w.fields.meta_seq ≡ highest (slots (parts (store w))) + 1
   pub number_fits : w.fields.meta_seq < 2 ^ 64
@@ -109,29 +109,30 @@ pub record CorrectWrite (w : Write) : Type 0 where
 -- ---- what the cut left
 
 -- The new record stands whole in a slot: all its header and payload bytes equal the write's; what follows them does not count.
-unfoldable pub standsWhole : List ℕ → List ℕ → List ℕ → Bool
-standsWhole s new payload = same (take (128 + length payload) s) (take (128 + length payload) new)
+unfoldable pub stands_whole : List ℕ → List ℕ → List ℕ → Bool
+stands_whole s new payload = same (take (128 + length payload) s) (take (128 + length payload) new)
 
 abbrev pub whole : Write → Bool
-whole w = standsWhole (left w) (new w) w.payload
+whole w = stands_whole (left w) (new w) w.payload
 
 -- A header passes its checksum: `validate`'s test, its length within the slot and the sum over it the stored one.
-unfoldable pub headerPasses : List ℕ → Bool
-headerPasses s =
-    cond (ltb (le16 s 12) 128) false (cond (ltb (length s) (le16 s 12)) false (eqb (headerSum s (le16 s 12)) (le32 s 8)))
+unfoldable pub header_passes : List ℕ → Bool
+header_passes s =
+    if nat_lt (le16 s 12) 128 || nat_lt (length s) (le16 s 12) then false
+    else headerSum s (le16 s 12) == le32 s 8
 
 -- What stands in the place of the payload.
-abbrev pub payloadIn : List ℕ → List ℕ → List ℕ
-payloadIn s payload = take (length payload) (drop 128 s)
+abbrev pub payload_in : List ℕ → List ℕ → List ℕ
+payload_in s payload = take (length payload) (drop 128 s)
 
 -- Accident: in the slot s as the cut left it,
 pub data Accident (s old new payload : List ℕ) : Type 0 where
   -- a header neither old nor new passes its checksum,
-  header : headerPasses s ≡ true → (take 128 s ≡ take 128 old → ⊥) → (take 128 s ≡ take 128 new → ⊥) → Accident s old new payload
+  header : header_passes s ≡ true → (take 128 s ≡ take 128 old → ⊥) → (take 128 s ≡ take 128 new → ⊥) → Accident s old new payload
   -- or under the new header a payload other than the new one does.
   payload : take 128 s ≡ take 128 new
-      → (payloadIn s payload ≡ payload → ⊥)
-      → crc32c (payloadIn s payload) ≡ le32 s 28
+      → (payload_in s payload ≡ payload → ⊥)
+      → crc32c (payload_in s payload) ≡ le32 s 28
       → Accident s old new payload
 
 -- ---- judged and read back
@@ -142,11 +143,11 @@ is_empty (p ∷ ps) = false
 
 -- The judge is handed false, or, if pair 0's new record stands whole, that record's mark.
 unfoldable pub handed : Write → Bool
-handed w = cond (is_empty w.before) (cond (whole w) (cleanMark w.payload) false) false
+handed w = if is_empty w.before then (if whole w then clean_mark w.payload else false) else false
 
 -- Every pair's last written record: in the written pair the new one if it stands whole.
 abbrev pub records : Write → List (List ℕ)
-records w = lastRecords w.before ++ cond (whole w) w.payload (lastRecord w.pair) ∷ lastRecords w.behind
+records w = last_records w.before ++ (if whole w then w.payload else last_record w.pair) ∷ last_records w.behind
 
 -- The winner's payload is r: where the slots' bytes are lent as a and b, every part that `winner_payload` may hand back holds r.
 abbrev pub PayloadIs : Pair → List ℕ → Type 0
@@ -175,7 +176,7 @@ pub record Survives (w : Write) (out : List ℕ) : Type 0 where
   pub answer : judged (frames (after w)) (flag (handed w)) (length out) ≡ Judged.Done judgement
   pub written : judgedBytes (frames (after w)) (flag (handed w)) out ≡ verdictBytes verdict
   -- and over the row of pairs the same.
-  pub row-answer : rowJudged (reads (after w)) (handed w) (length (after w)) ≡ Judged.Done judgement
+  pub row_answer : rowJudged (reads (after w)) (handed w) (length (after w)) ≡ Judged.Done judgement
   pub row_written : (rows : List PairVerdict) → length rows ≡ length (after w) → rowVerdicts (reads (after w)) (handed w) rows ≡ verdict
   pub confirmed : Every (λ (v : PairVerdict). v.standing ≡ Standing.Confirmed) verdict
   pub writable : judgement.writable ≡ true
@@ -186,7 +187,7 @@ abbrev pub CutTheorem : Type 0
 CutTheorem =
     (w : Write)
     → Sound (store w)
-    → storeMark (store w) ≡ false
+    → store_mark (store w) ≡ false
     → CorrectWrite w
     → CutPoint w.k (size w)
     → (Accident (left w) (old w) (new w) w.payload → ⊥)

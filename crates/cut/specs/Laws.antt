@@ -12,8 +12,8 @@ use Rattle.frame.specs.Frame.{failedPart, part_of, partBytes}
 use Rattle.frame.specs.declared.frame.SlotPart.{SlotPart}
 use Rattle.volume.specs.Volume.{decodeVolume}
 use Rattle.page.specs.Read.{decodePage}
-use Rattle.cut.specs.Store.{Volume, Page, accepts, cleanMark, Pair, slot_at, status, filled, frames, storeMark, SoundPair}
-use Rattle.cut.specs.Cut.{Write, CorrectWrite, whole, payloadIn, Accident, handed, PayloadIs}
+use Rattle.cut.specs.Store.{Volume, Page, accepts, clean_mark, Pair, slot_at, status, filled, frames, store_mark, SoundPair}
+use Rattle.cut.specs.Cut.{Write, CorrectWrite, whole, payload_in, Accident, handed, PayloadIs}
 
 -- ---- the decoders
 
@@ -35,13 +35,13 @@ Encoded = (w : Write) → SoundPair w.pair → CorrectWrite w → encode w.field
 
 -- A volume record with 0 in its byte 54 has no clean mark,
 abbrev pub UnmarkedRecord : Type 0
-UnmarkedRecord = (r : List ℕ) → get_or r 54 0 ≡ 0 → cleanMark r ≡ false
+UnmarkedRecord = (r : List ℕ) → get_or r 54 0 ≡ 0 → clean_mark r ≡ false
 
 -- and neither has a store with such a record in the newer slot of its pair 0.
 abbrev pub UnmarkedStore : Type 0
 UnmarkedStore =
     (p : Pair) (ps : List Pair) (sound : SoundPair p) → get_or (payload sound.info (slot_at sound.newer p).bytes) 54 0 ≡ 0
-    → storeMark (p ∷ ps) ≡ false
+    → store_mark (p ∷ ps) ≡ false
 
 -- After a write to a page the judge is handed false,
 abbrev pub PageHanded : Type 0
@@ -53,7 +53,7 @@ TornHanded = (w : Write) → whole w ≡ false → handed w ≡ false
 
 -- where pair 0's new record stands whole, it is handed that record's mark.
 abbrev pub WholeHanded : Type 0
-WholeHanded = (w : Write) → w.before ≡ [] → whole w ≡ true → handed w ≡ cleanMark w.payload
+WholeHanded = (w : Write) → w.before ≡ [] → whole w ≡ true → handed w ≡ clean_mark w.payload
 
 -- ---- the accident
 
@@ -66,7 +66,7 @@ FailedSum =
 -- and where under the new header the payload's checksum is not the stored one.
 abbrev pub FailedPayload : Type 0
 FailedPayload =
-    (s old new payload : List ℕ) → take 128 s ≡ take 128 new → (crc32c (payloadIn s payload) ≡ le32 s 28 → ⊥)
+    (s old new payload : List ℕ) → take 128 s ≡ take 128 new → (crc32c (payload_in s payload) ≡ le32 s 28 → ⊥)
     → Accident s old new payload → ⊥
 
 -- ---- the frames
@@ -83,18 +83,18 @@ ChecksumGiven =
     → filled rest (failedPart c (HeaderFacts.Stored own)) ≡ record rest { code = c; facts = 1; header_crc32c = own }
 
 -- A host that leaves zeros there.
-abbrev pub zeroPart : SlotPart
-zeroPart = record { code = 0; facts = 0; generation = 0; meta_seq = 0; header_crc32c = 0; prev_header_crc32c = 0 }
+abbrev pub zero_part : SlotPart
+zero_part = record { code = 0; facts = 0; generation = 0; meta_seq = 0; header_crc32c = 0; prev_header_crc32c = 0 }
 
 -- Then a pair's frame is the bytes of the parts that `SlotPart::new` gives, A's and then B's.
 abbrev pub PairFrame : Type 0
 PairFrame =
-    (p : Pair) (ps : List Pair) → p.a.rest ≡ zeroPart → p.b.rest ≡ zeroPart
+    (p : Pair) (ps : List Pair) → p.a.rest ≡ zero_part → p.b.rest ≡ zero_part
     → frames (p ∷ ps)
     ≡ partBytes (part_of (status p.a) (headerFacts p.a.bytes p.a.expect))
     ++ (partBytes (part_of (status p.b) (headerFacts p.b.bytes p.b.expect)) ++ frames ps)
 
--- ---- the read-back
+-- ---- the read_back
 
 -- Of every pair one record at most is read back.
 abbrev pub OnePayload : Type 0
@@ -102,7 +102,7 @@ OnePayload = (p : Pair) (r s : List ℕ) → PayloadIs p r → PayloadIs p s →
 
 -- A pair whose slots hold the bytes a and b and are read with ea and eb.
 pub record HasSlots (p : Pair) (a : List ℕ) (ea : Expect) (b : List ℕ) (eb : Expect) : Type 0 where
-  pub bytes-a : p.a.bytes ≡ a
-  pub expect-a : p.a.expect ≡ ea
-  pub bytes-b : p.b.bytes ≡ b
-  pub expect-b : p.b.expect ≡ eb
+  pub bytes_a : p.a.bytes ≡ a
+  pub expect_a : p.a.expect ≡ ea
+  pub bytes_b : p.b.bytes ≡ b
+  pub expect_b : p.b.expect ≡ eb

@@ -1,5 +1,5 @@
 -- The sound store (docs/FORMAT.md, "The sound store and the cut"): its slots and pairs, how they are read and judged, and when it is sound.
-use Rattle.std.specs.Prelude.{◌≡◌, Bool, true, false, cond, List, [], ◌∷◌, ℕ, ◌+◌, ◌^◌, ◌<◌, leb, ltb, eqb, length}
+use Rattle.std.specs.Prelude.{◌≡◌, Bool, true, false, ◌||◌, if◌then◌else◌, List, [], ◌∷◌, ℕ, ◌+◌, ◌^◌, ◌<◌, nat_le, nat_lt, ◌==◌, length}
 use Rattle.codec.specs.Bytes.{AllBytes}
 use Rattle.codec.specs.Outcome.{Outcome, given, refusal, isGiven}
 use Rattle.slot.specs.Status.{other, validInfo}
@@ -38,13 +38,13 @@ abbrev pub accepts : Decoder → List ℕ → Bool
 accepts Volume r = isGiven (decodeVolume r)
 accepts (Page index most) r = isGiven (decodePage r index most)
 
-abbrev pub markBy : Outcome VolumeMeta2 → Bool
-markBy (given volume) = volume.clean_close
-markBy (refusal number) = false
+abbrev pub mark_by : Outcome VolumeMeta2 → Bool
+mark_by (given volume) = volume.clean_close
+mark_by (refusal number) = false
 
 -- The clean mark of a volume record.
-abbrev pub cleanMark : List ℕ → Bool
-cleanMark r = markBy (decodeVolume r)
+abbrev pub clean_mark : List ℕ → Bool
+clean_mark r = mark_by (decodeVolume r)
 
 -- ---- slots and pairs
 
@@ -72,11 +72,11 @@ report p = readPair p.a.bytes p.a.expect p.b.bytes p.b.expect
 -- ---- the frames
 
 -- Generation, number and previous checksum are given under code 12 and with facts 2; the own checksum with facts 1, too.
-abbrev pub numbersGiven : SlotPart → Bool
-numbersGiven p = cond (eqb p.code 12) true (eqb p.facts 2)
+abbrev pub numbers_given : SlotPart → Bool
+numbers_given p = (p.code == 12) || (p.facts == 2)
 
-abbrev pub checksumGiven : SlotPart → Bool
-checksumGiven p = cond (eqb p.code 12) true (leb 1 p.facts)
+abbrev pub checksum_given : SlotPart → Bool
+checksum_given p = (p.code == 12) || nat_le 1 p.facts
 
 -- The fields that are given, and the rest as it was.
 unfoldable pub filled : SlotPart → SlotPart → SlotPart
@@ -84,56 +84,56 @@ filled rest p =
     record {
       code = p.code;
       facts = p.facts;
-      generation = cond (numbersGiven p) p.generation rest.generation;
-      meta_seq = cond (numbersGiven p) p.meta_seq rest.meta_seq;
-      header_crc32c = cond (checksumGiven p) p.header_crc32c rest.header_crc32c;
-      prev_header_crc32c = cond (numbersGiven p) p.prev_header_crc32c rest.prev_header_crc32c;
+      generation = if numbers_given p then p.generation else rest.generation;
+      meta_seq = if numbers_given p then p.meta_seq else rest.meta_seq;
+      header_crc32c = if checksum_given p then p.header_crc32c else rest.header_crc32c;
+      prev_header_crc32c = if numbers_given p then p.prev_header_crc32c else rest.prev_header_crc32c;
     }
 
 -- A slot is validated, and its `header_facts` taken, with the identity and size it is read with.
-unfoldable pub slotPart : Slot → SlotPart
-slotPart s = filled s.rest (part_of (status s) (headerFacts s.bytes s.expect))
+unfoldable pub slot_part : Slot → SlotPart
+slot_part s = filled s.rest (part_of (status s) (headerFacts s.bytes s.expect))
 
-unfoldable pub pairPart : Pair → PairPart
-pairPart p = record { a = slotPart p.a; b = slotPart p.b }
+unfoldable pub pair_part : Pair → PairPart
+pair_part p = record { a = slot_part p.a; b = slot_part p.b }
 
 -- The parts of all pairs, as the judge goes by them.
 abbrev pub parts : List Pair → List PairPart
 parts [] = []
-parts (p ∷ ps) = pairPart p ∷ parts ps
+parts (p ∷ ps) = pair_part p ∷ parts ps
 
 -- The frames filled from all pairs.
 abbrev pub frames : List Pair → List ℕ
 frames ps = framesOf (parts ps)
 
 -- The row of pairs: each slot's status and its `header_facts`.
-abbrev pub slotRead : Slot → SlotRead
-slotRead s = record { status = status s; facts = headerFacts s.bytes s.expect }
+abbrev pub slot_read : Slot → SlotRead
+slot_read s = record { status = status s; facts = headerFacts s.bytes s.expect }
 
 abbrev pub reads : List Pair → List PairRead
 reads [] = []
-reads (p ∷ ps) = record { a = slotRead p.a; b = slotRead p.b } ∷ reads ps
+reads (p ∷ ps) = record { a = slot_read p.a; b = slot_read p.b } ∷ reads ps
 
 -- ---- the last written records
 
-abbrev pub recordBy : ValidInfo → ValidInfo → List ℕ → List ℕ → List ℕ
-recordBy (ValidInfo.Info i) (ValidInfo.Info j) a b = cond (ltb i.generation j.generation) (payload j b) (payload i a)
-recordBy (ValidInfo.Info i) ValidInfo.Nothing a b = payload i a
-recordBy ValidInfo.Nothing (ValidInfo.Info j) a b = payload j b
-recordBy ValidInfo.Nothing ValidInfo.Nothing a b = []
+abbrev pub record_by : ValidInfo → ValidInfo → List ℕ → List ℕ → List ℕ
+record_by (ValidInfo.Info i) (ValidInfo.Info j) a b = if nat_lt i.generation j.generation then payload j b else payload i a
+record_by (ValidInfo.Info i) ValidInfo.Nothing a b = payload i a
+record_by ValidInfo.Nothing (ValidInfo.Info j) a b = payload j b
+record_by ValidInfo.Nothing ValidInfo.Nothing a b = []
 
 -- A record is a payload; a pair's last written one lies in its Valid slot of the highest generation.
-unfoldable pub lastRecord : Pair → List ℕ
-lastRecord p = recordBy (validInfo (status p.a)) (validInfo (status p.b)) p.a.bytes p.b.bytes
+unfoldable pub last_record : Pair → List ℕ
+last_record p = record_by (validInfo (status p.a)) (validInfo (status p.b)) p.a.bytes p.b.bytes
 
-abbrev pub lastRecords : List Pair → List (List ℕ)
-lastRecords [] = []
-lastRecords (p ∷ ps) = lastRecord p ∷ lastRecords ps
+abbrev pub last_records : List Pair → List (List ℕ)
+last_records [] = []
+last_records (p ∷ ps) = last_record p ∷ last_records ps
 
 -- The store's clean mark is that of pair 0's last written record.
-abbrev pub storeMark : List Pair → Bool
-storeMark [] = false
-storeMark (p ∷ ps) = cleanMark (lastRecord p)
+abbrev pub store_mark : List Pair → Bool
+store_mark [] = false
+store_mark (p ∷ ps) = clean_mark (last_record p)
 
 -- ---- sound
 
@@ -141,7 +141,7 @@ storeMark (p ∷ ps) = cleanMark (lastRecord p)
 pub record Typed (s : Slot) : Type 0 where
   pub bytes : AllBytes s.bytes
   pub volume : length s.expect.volume_uuid ≡ 16
-  pub volume-bytes : AllBytes s.expect.volume_uuid
+  pub volume_bytes : AllBytes s.expect.volume_uuid
   pub object : s.expect.object_id < 2 ^ 64
   pub offset : s.expect.slot_offset < 2 ^ 64
   pub generation : s.rest.generation < 2 ^ 64

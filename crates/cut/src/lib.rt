@@ -23,17 +23,20 @@ pub fn refused_records()
 {}
 
 // A correct write is one that `encode` writes.
+#[tactic(auto, using(crate::proofs::WriteLaws::encoded))]
 pub fn correct_write()
     ensures { Encoded }
 {}
 
 // When a record and a store have no clean mark.
+#[tactic(auto, using(crate::proofs::StatementLaws::unmarked_record))]
 pub fn clean_mark()
     ensures unmarked_record { UnmarkedRecord }
     ensures unmarked_store { UnmarkedStore }
 {}
 
 // Which mark the judge is handed.
+#[tactic(auto, using(crate::proofs::StatementLaws::page_handed, crate::proofs::StatementLaws::torn_handed, crate::proofs::StatementLaws::whole_handed))]
 pub fn handed_mark()
     ensures page { PageHanded }
     ensures torn { TornHanded }
@@ -47,6 +50,7 @@ pub fn no_accident()
 {}
 
 // The frames are the bytes that the library fills, with what the host left in the other fields.
+#[tactic(auto, using(crate::proofs::StatementLaws::nothing_given, crate::proofs::StatementLaws::checksum_alone, crate::proofs::StatementLaws::pair_frame))]
 pub fn frames()
     ensures kept { NothingGiven }
     ensures kept_beside_checksum { ChecksumGiven }

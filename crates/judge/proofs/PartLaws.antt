@@ -1,5 +1,5 @@
 -- A slot's part of a frame shows what the slot as read shows, whatever stands in the fields that are not given, and is read back from its bytes.
-use Rattle.std.proofs.Common.{◌≡◌, refl, Bool, true, false, cond, ◌&&◌, List, [], ◌∷◌, ◌++◌, ℕ, ◌+◌, ◌<◌, ◌≤◌, arith, leb, length, drop, get_or, drop-cons, Option, Some, None}
+use Rattle.std.proofs.Common.{◌≡◌, refl, Bool, true, false, cond, ◌&&◌, List, [], ◌∷◌, ◌++◌, ℕ, ◌+◌, ◌<◌, ◌≤◌, arith, ne_eqb, leb, length, drop, get_or, drop-cons, Option, Some, None}
 use Rattle.codec.proofs.ReadLaws.{Rest, onward, value_u32, value_u64}
 use Rattle.std.specs.Int.{w32, w64, to_le_bytes}
 use Rattle.slot.specs.Status.{code}
@@ -10,7 +10,7 @@ use Rattle.judge.specs.declared.pairs.Version.{Version}
 use Rattle.judge.specs.declared.part.SlotPart.{SlotPart}
 use Rattle.judge.specs.Part.{part_of, part_bytes, part_at, part_shown, is_in_range, facts_number, header_number}
 use Rattle.judge.specs.Records.{shown_of, payload_shown}
-use Rattle.judge.specs.Same.{filled, VersionFits}
+use Rattle.judge.specs.Same.{filled, NothingGiven, ChecksumGiven, VersionFits}
 
 -- ---- what it shows, and its range
 
@@ -72,6 +72,14 @@ filled-fits rest p own other =
       prev = either-below _ _ _ _ own.prev other.prev;
     }
 
+pub nothing_given : NothingGiven
+unfolding filled
+nothing_given rest c not_valid = simp (ne_eqb _ _ not_valid)
+
+pub checksum_alone : ChecksumGiven
+unfolding filled
+checksum_alone rest c own not_valid = simp (ne_eqb _ _ not_valid)
+
 -- ---- its bytes
 
 pub length_part : (p : SlotPart) → length (part_bytes p) ≡ 26
@@ -90,9 +98,11 @@ part-read s t at p fits r =
     let seq : List ℕ = to_le_bytes w64 v.meta_seq ++ own in
     let all : List ℕ = to_le_bytes w64 v.generation ++ seq in
     let head : List ℕ = p.code ∷ p.facts ∷ to_le_bytes w64 v.generation in
-    simp
-    (byte-read s (p.facts ∷ all) at p.code r, byte-read s all (at + 1) p.facts (onward 1 (p.code ∷ []) (p.facts ∷ all) refl r),
-    value_u64 v.generation seq fits.generation (onward 2 (p.code ∷ p.facts ∷ []) all refl r),
-    value_u64 v.meta_seq own fits.number (onward 10 head seq refl r),
-    value_u32 v.header_crc32c prev fits.own (onward 18 (head ++ to_le_bytes w64 v.meta_seq) own refl r),
-    value_u32 v.prev_header_crc32c t fits.prev (onward 22 (head ++ to_le_bytes w64 v.meta_seq ++ to_le_bytes w32 v.header_crc32c) prev refl r))
+    simp (
+      byte-read s (p.facts ∷ all) at p.code r,
+      byte-read s all (at + 1) p.facts (onward 1 (p.code ∷ []) (p.facts ∷ all) refl r),
+      value_u64 v.generation seq fits.generation (onward 2 (p.code ∷ p.facts ∷ []) all refl r),
+      value_u64 v.meta_seq own fits.number (onward 10 head seq refl r),
+      value_u32 v.header_crc32c prev fits.own (onward 18 (head ++ to_le_bytes w64 v.meta_seq) own refl r),
+      value_u32 v.prev_header_crc32c t fits.prev (onward 22 (head ++ to_le_bytes w64 v.meta_seq ++ to_le_bytes w32 v.header_crc32c) prev refl r),
+    )

@@ -135,21 +135,21 @@ same_judge =
     record {
       answer = λ fs fits clean room. answer-is fs fits (mark clean) (room * verdict_width) ∙ simp (same-error (pairs_of fs) clean room, (mark-back clean).1);
       verdicts = λ fs fits clean out.
-      let by_frames =
-      simp (length-verdicts out, same-error (pairs_of fs) clean (length out), (mark-back clean).1)
-      at (verdicts-are fs fits (mark clean) (row_bytes out)) in
-      by_frames ∙ left-bytes (records_error (pairs_of fs) (length out)) (verdicts (map pair_read (pairs_of fs)) clean) out;
+          let by_frames =
+          simp (length-verdicts out, same-error (pairs_of fs) clean (length out), (mark-back clean).1)
+          at (verdicts-are fs fits (mark clean) (row_bytes out)) in
+          by_frames ∙ left-bytes (records_error (pairs_of fs) (length out)) (verdicts (map pair_read (pairs_of fs)) clean) out;
     }
 
 pub ignored_fields : IgnoredFields
 ignored_fields =
     record {
       answer = λ fs gs fits fits' same clean room.
-      answer-is fs fits clean room
-      ∙ ap (λ (ps : List PairRead). unless (framed_error ps clean room) (judgement (map pair_read ps) (eqb clean 1))) same
-      ∙ sym (answer-is gs fits' clean room);
+          answer-is fs fits clean room
+          ∙ ap (λ (ps : List PairRead). unless (framed_error ps clean room) (judgement (map pair_read ps) (eqb clean 1))) same
+          ∙ sym (answer-is gs fits' clean room);
       verdicts = λ fs gs fits fits' same clean out.
-      verdicts-are fs fits clean out
-      ∙ ap (λ (ps : List PairRead). left (framed_error ps clean (length out)) (row_bytes (verdicts (map pair_read ps) (eqb clean 1))) out) same
-      ∙ sym (verdicts-are gs fits' clean out);
+          verdicts-are fs fits clean out
+          ∙ ap (λ (ps : List PairRead). left (framed_error ps clean (length out)) (row_bytes (verdicts (map pair_read ps) (eqb clean 1))) out) same
+          ∙ sym (verdicts-are gs fits' clean out);
     }

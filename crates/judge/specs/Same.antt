@@ -1,12 +1,13 @@
 -- Frames filled from pairs as they were read (docs/FORMAT.md, "Frames"): the judge over them answers as the judge over those pairs, whatever
 -- stands in the fields that are not given.
-use Rattle.std.specs.Prelude.{◌≡◌, Bool, ◌||◌, List, [], ◌∷◌, ◌++◌, ℕ, ◌*◌, ◌^◌, ◌<◌, ◌==◌, nat_le, if◌then◌else◌, map, flat_map, ⊤}
+use Rattle.std.specs.Prelude.{◌≡◌, Bool, ◌||◌, List, [], ◌∷◌, ◌++◌, ℕ, ◌*◌, ◌^◌, ◌<◌, ◌==◌, nat_le, if◌then◌else◌, map, flat_map, Option, Some, None, ⊤}
+use Rattle.slot.specs.declared.slot.HeaderFacts.{HeaderFacts}
 use Rattle.judge.specs.declared.pairs.Version.{Version}
 use Rattle.judge.specs.declared.part.SlotPart.{SlotPart}
 use Rattle.judge.specs.declared.verdict.PairVerdict.{PairVerdict}
 use Rattle.judge.specs.declared.records.SlotRead.{SlotRead}
 use Rattle.judge.specs.declared.records.PairRead.{PairRead}
-use Rattle.judge.specs.Part.{part_of, part_bytes}
+use Rattle.judge.specs.Part.{version_of_facts, facts_number, part_of, part_bytes}
 use Rattle.judge.specs.Records.{judge_records, records_left}
 use Rattle.judge.specs.Frames.{verdict_width, row_bytes, judge_frames, frames_left}
 
@@ -31,6 +32,21 @@ filled rest p =
             prev_header_crc32c = if numbers_given p then p.version.prev_header_crc32c else rest.prev_header_crc32c;
           };
     }
+
+-- The part under the code of a status that is not Valid.
+abbrev pub failed_part : ℕ → Option HeaderFacts → SlotPart
+failed_part c f = record { code = c; facts = facts_number f; version = version_of_facts f }
+
+-- Where nothing is given, a part holds what the host left in it,
+abbrev pub NothingGiven : Type 0
+NothingGiven = (rest : Version) (c : ℕ) → (c ≡ 12 → ⊥) → filled rest (failed_part c None) ≡ record { code = c; facts = 0; version = rest }
+
+-- and so it does in the other fields where only the own checksum is given.
+abbrev pub ChecksumGiven : Type 0
+ChecksumGiven =
+    (rest : Version) (c own : ℕ) → (c ≡ 12 → ⊥)
+    → filled rest (failed_part c (Some (record { stored_header_crc32c = own; numbered = None })))
+    ≡ record { code = c; facts = 1; version = record rest { header_crc32c = own } }
 
 -- A pair as it was read, and what stands in the fields that are not given, of A and of B.
 pub record Framed : Type 0 where

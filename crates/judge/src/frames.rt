@@ -92,12 +92,7 @@ impl Verdicts for VerdictBytes<'_> {
     #[tactic(auto, using(crate::proofs::CellLaws::length_cells, crate::proofs::CellLaws::cells_read))]
     fn verdict(&self, i: usize) -> PairVerdict {
         let at = i * VERDICT;
-        PairVerdict::from_bytes([
-            self.0[at],
-            self.0[at + 1],
-            self.0[at + 2],
-            self.0[at + 3],
-        ])
+        PairVerdict::from_bytes([self.0[at], self.0[at + 1], self.0[at + 2], self.0[at + 3]])
     }
 
     #[tactic(auto, using(crate::proofs::CellLaws::length_cells, crate::proofs::CellLaws::cells_put))]

@@ -2,7 +2,7 @@
 ghost use Rattle.std.specs.Prelude.{◌≡◌, ◌==◌, length, true, refl};
 ghost use Rattle.judge.specs.Records.{shown_read, pair_read, judge_records, records_left};
 ghost use Rattle.judge.specs.ReadBack.{same_length};
-ghost use Rattle.judge.specs.Same.{SameJudge, IgnoredFields};
+ghost use Rattle.judge.specs.Same.{NothingGiven, ChecksumGiven, SameJudge, IgnoredFields};
 
 use crate::pairs::{Pair, Shown, Version};
 use crate::row::{ReadPair, Verdicts};
@@ -34,7 +34,8 @@ impl SlotRead {
                 SlotStatus::BadPayloadCrc,
                 Some(
                     HeaderFacts {
-                        numbered: Some(_), ..
+                        numbered: Some(_),
+                        ..
                     },
                 ),
             ) => Shown::BadPayload(Version::of_facts(self.facts)),
@@ -123,4 +124,11 @@ pub fn same_law()
 #[tactic(auto, using(crate::proofs::SameLaws::ignored_fields))]
 pub fn ignored_law()
     ensures { IgnoredFields }
+{}
+
+// Does nothing: its contract is that a frame filled from a slot keeps what stood in the fields which are not given.
+#[tactic(auto, using(crate::proofs::PartLaws::nothing_given, crate::proofs::PartLaws::checksum_alone))]
+pub fn kept_law()
+    ensures nothing { NothingGiven }
+    ensures checksum { ChecksumGiven }
 {}

@@ -13,8 +13,8 @@ use Rattle.cut.specs.Store.{Volume, Page, Slot, Pair}
 -- ---- records
 
 -- The volume record of a store with two pages, with its clean mark.
-abbrev pub volumeRecord : Bool → List ℕ
-volumeRecord mark =
+abbrev pub volume_record : Bool → List ℕ
+volume_record mark =
     volumeBytes
     (record {
       base =
@@ -34,8 +34,8 @@ volumeRecord mark =
     })
 
 -- A page with no entry.
-abbrev pub pageRecord : (index next : ℕ) → List ℕ
-pageRecord index next = headerBytes (record { page_index = index; next_seq = next; count = 0 })
+abbrev pub page_record : (index next : ℕ) → List ℕ
+page_record index next = headerBytes (record { page_index = index; next_seq = next; count = 0 })
 
 -- ---- slots
 
@@ -69,8 +69,8 @@ fields object index generation prev number =
     }
 
 -- A slot is read with the identity and size that it is written with, in format 2 and numbered.
-abbrev pub readWith : SlotFields → Expect
-readWith f =
+abbrev pub read_with : SlotFields → Expect
+read_with f =
     record {
       volume_uuid = f.volume_uuid;
       object_id = f.object_id;
@@ -82,51 +82,51 @@ readWith f =
     }
 
 -- A slot as `encode` writes it.
-abbrev pub writtenSlot : SlotFields → List ℕ → Slot
-writtenSlot f payload = record { bytes = encodedBytes f payload (replicate 512 0); expect = readWith f; rest = rest }
+abbrev pub written_slot : SlotFields → List ℕ → Slot
+written_slot f payload = record { bytes = encodedBytes f payload (replicate 512 0); expect = read_with f; rest = rest }
 
 -- A Blank slot: behind its first 128 bytes it holds anything.
-abbrev pub blankSlot : (object : ℕ) → SlotIndex → Slot
-blankSlot object index =
-    record { bytes = replicate 128 0 ++ replicate 384 9; expect = readWith (fields object index 0 0 0); rest = rest }
+abbrev pub blank_slot : (object : ℕ) → SlotIndex → Slot
+blank_slot object index =
+    record { bytes = replicate 128 0 ++ replicate 384 9; expect = read_with (fields object index 0 0 0); rest = rest }
 
 -- ---- pairs
 
 -- Pair 0: A of generation 1, B Blank.
-abbrev pub volumeFields : SlotFields
-volumeFields = fields 0 SlotIndex.A 1 0 1
+abbrev pub volume_fields : SlotFields
+volume_fields = fields 0 SlotIndex.A 1 0 1
 
-abbrev pub volumePair : Pair
-volumePair = record { a = writtenSlot volumeFields (volumeRecord false); b = blankSlot 0 SlotIndex.B; decoder = Volume }
+abbrev pub volume_pair : Pair
+volume_pair = record { a = written_slot volume_fields (volume_record false); b = blank_slot 0 SlotIndex.B; decoder = Volume }
 
 -- Pair 1: A of generation 1, B of generation 2, which names A's checksum.
-abbrev pub olderFields : SlotFields
-olderFields = fields 1 SlotIndex.A 1 0 2
+abbrev pub older_fields : SlotFields
+older_fields = fields 1 SlotIndex.A 1 0 2
 
-abbrev pub newerFields : SlotFields
-newerFields = fields 1 SlotIndex.B 2 0x588e_9174 4
+abbrev pub newer_fields : SlotFields
+newer_fields = fields 1 SlotIndex.B 2 0x588e_9174 4
 
-abbrev pub firstPage : Pair
-firstPage = record { a = writtenSlot olderFields (pageRecord 0 1); b = writtenSlot newerFields (pageRecord 0 2); decoder = Page 0 41 }
+abbrev pub first_page : Pair
+first_page = record { a = written_slot older_fields (page_record 0 1); b = written_slot newer_fields (page_record 0 2); decoder = Page 0 41 }
 
 -- Pair 2: A of generation 1, B Blank.
-abbrev pub secondFields : SlotFields
-secondFields = fields 2 SlotIndex.A 1 0 3
+abbrev pub second_fields : SlotFields
+second_fields = fields 2 SlotIndex.A 1 0 3
 
-abbrev pub secondPage : Pair
-secondPage = record { a = writtenSlot secondFields (pageRecord 1 0); b = blankSlot 2 SlotIndex.B; decoder = Page 1 41 }
+abbrev pub second_page : Pair
+second_page = record { a = written_slot second_fields (page_record 1 0); b = blank_slot 2 SlotIndex.B; decoder = Page 1 41 }
 
 -- Pair 1 once a write to its slot A stands whole: A of generation 3, which names B's checksum, and B of generation 2.
-abbrev pub newFields : SlotFields
-newFields = fields 1 SlotIndex.A 3 0xe83c_e718 5
+abbrev pub new_fields : SlotFields
+new_fields = fields 1 SlotIndex.A 3 0xe83c_e718 5
 
-abbrev pub laterPage : Pair
-laterPage = record { a = writtenSlot newFields (pageRecord 0 0x304); b = writtenSlot newerFields (pageRecord 0 2); decoder = Page 0 41 }
+abbrev pub later_page : Pair
+later_page = record { a = written_slot new_fields (page_record 0 0x304); b = written_slot newer_fields (page_record 0 2); decoder = Page 0 41 }
 
 -- ---- the stores
 
-abbrev pub firstStore : List Pair
-firstStore = volumePair ∷ firstPage ∷ secondPage ∷ []
+abbrev pub first_store : List Pair
+first_store = volume_pair ∷ first_page ∷ second_page ∷ []
 
-abbrev pub laterStore : List Pair
-laterStore = volumePair ∷ laterPage ∷ secondPage ∷ []
+abbrev pub later_store : List Pair
+later_store = volume_pair ∷ later_page ∷ second_page ∷ []
