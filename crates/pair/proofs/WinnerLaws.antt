@@ -1,5 +1,5 @@
 -- The winner's slot is Valid with the facts that the report gives, and its payload lies within it.
-use Rattle.std.proofs.Common.{◌≡◌, refl, ap, ◌∙◌, Bool, true, false, not, ◌||◌, List, ℕ, ◌+◌, ◌-◌, ◌≤◌, ◌==◌, arith, ltb-false, length, Option, Some, None, Result, Ok, Err}
+use Rattle.std.proofs.Common.{◌≡◌, refl, ap, subst, ◌∙◌, Bool, true, false, not, ◌||◌, List, ℕ, ◌+◌, ◌-◌, ◌≤◌, ◌==◌, arith, ltb-false, length, Option, Some, None, Result, Ok, Err}
 use Rattle.std.specs.Prelude.{nat_eq, nat_lt, if◌then◌else◌}
 use borrow.Author.Tests.{not-false}
 use lib.Pointwise.{pointwise}
@@ -14,10 +14,10 @@ use Rattle.slot.specs.declared.slot.SlotStatus.{SlotStatus}
 use Rattle.slot.proofs.Tests.{passed}
 use Rattle.slot.proofs.Room.{passes_within}
 use Rattle.slot.proofs.StatusLaws.{Checked, checked}
-use Rattle.slot.proofs.StatusLaws.Checked.{passes, fails}
+use Rattle.slot.proofs.StatusLaws.Checked.{fails}
 use Rattle.pair.specs.declared.pair.Winner.{Winner}
 use Rattle.pair.specs.declared.pair.PairReport.{PairReport}
-use Rattle.pair.specs.Pair.{refused, plain, ordered, two_valid, by_info, decide, status, named, info_by, winner_info}
+use Rattle.pair.specs.Pair.{refused, plain, ordered, by_info, decide, status, named, info_by, winner_info}
 use Rattle.pair.specs.Winner.{read_pair, WinnerFits}
 
 -- ---- a Valid slot
@@ -54,7 +54,7 @@ valid_fits s e i is = go (is_slot_length (length s) e.log2_slot_size) (is_blank 
     by_check : (h : Header) (answer : Result (Unit {0}) SlotStatus) → check s h e ≡ answer → status_of s h answer ≡ SlotStatus.Valid i
         → i.payload_start + i.payload_len ≤ length s
     by_check h (Ok p) was is = by_payload h (passes_payload s h) (check_fits s h e was) is
-    by_check h (Err f) was is = absurd (by_failure f (rw was at checked s h e) is)
+    by_check h (Err f) was is = absurd (by_failure f (subst Checked was (checked s h e)) is)
 
     go : (length_ok blank : Bool) (h : Option Header)
         → (if not length_ok then SlotStatus.BadLength else if blank then SlotStatus.Blank else header_status s e h) ≡ SlotStatus.Valid i
@@ -75,8 +75,9 @@ winner_valid r index i is = go r.winner is
   where
     at : (w : SlotIndex) (known : Option SlotInfo) → info (status r w) ≡ known → named w known ≡ Some (index, i) → status r index ≡ SlotStatus.Valid i
     at w (Some j) was is =
-        let slot : w ≡ index = cc in
-        let facts : j ≡ i = cc in
+        let won : ◌≡◌ {A = SlotIndex × SlotInfo} (w, j) (index, i) = cc in
+        let slot = ap (λ (x : SlotIndex × SlotInfo). x.0) won in
+        let facts = ap (λ (x : SlotIndex × SlotInfo). x.1) won in
         rw (← slot) (info_valid (status r w) i (was ∙ ap Some facts))
     at w None was is = absurd cc
 
@@ -107,6 +108,6 @@ decided a b = go (refused a || refused b) (info a) (info b)
 pub winner_fits : WinnerFits
 unfolding read_pair
 winner_fits a b expect_a expect_b SlotIndex.A i is =
-    valid_fits a expect_a i (rw (← (decided (validate a expect_a) (validate b expect_b)).0) (winner_valid _ SlotIndex.A i is))
+    valid_fits a expect_a i (rw (← (decided (validate a expect_a) (validate b expect_b)).0) (winner_valid (read_pair a expect_a b expect_b) SlotIndex.A i is))
 winner_fits a b expect_a expect_b SlotIndex.B i is =
-    valid_fits b expect_b i (rw (← (decided (validate a expect_a) (validate b expect_b)).1) (winner_valid _ SlotIndex.B i is))
+    valid_fits b expect_b i (rw (← (decided (validate a expect_a) (validate b expect_b)).1) (winner_valid (read_pair a expect_a b expect_b) SlotIndex.B i is))
