@@ -1,6 +1,6 @@
 -- A slot is named for healing if and only if its last verdict is InFlight. The first pass leaves at most one slot of a pair in flight, so
 -- that its candidates are the slots in flight; the second pass leaves none of them unless there is one. So at most one slot is in flight.
-use Rattle.std.proofs.Common.{◌≡◌, refl, ap, ◌∙◌, Bool, true, false, cond, ◌||◌, ◌&&◌, List, [], ◌∷◌, ℕ, zero, suc, ◌+◌, ◌≤◌, zero-add, arith, eqb-true, eqb, Option, Some, None, subst}
+use Rattle.std.proofs.Common.{◌≡◌, refl, ap, ◌∙◌, Bool, true, false, cond, List, [], ◌∷◌, ℕ, zero, suc, ◌+◌, ◌≤◌, zero-add, arith, eqb-true, eqb, Option, Some, None, subst}
 use Rattle.std.specs.Option.{option_or}
 use Rattle.slot.specs.declared.slot.SlotIndex.{SlotIndex}
 use Rattle.judge.specs.declared.pairs.Shown.{Shown}
@@ -9,10 +9,9 @@ use Rattle.judge.specs.declared.pairs.PairCase.{PairCase}
 use Rattle.judge.specs.Pairs.{pair_case}
 use Rattle.judge.specs.Numbers.{slots}
 use Rattle.judge.specs.declared.verdict.SlotVerdict.{SlotVerdict}
-use Rattle.judge.specs.declared.verdict.Standing.{Standing}
 use Rattle.judge.specs.declared.verdict.PairVerdict.{PairVerdict}
-use Rattle.judge.specs.Verdict.{by_index, pair_verdict, winner_beside, is_in_flight, in_flight}
-use Rattle.judge.specs.Judge.{verdicts_from, first_verdicts, volume_verdict, candidates, any_trouble, first_tally, mark_counts, demoted_slot, demoted, last_verdicts, pair_heal, heal, row_rules, verdicts, judgement, slot_at, HealNames}
+use Rattle.judge.specs.Verdict.{by_index, pair_verdict, is_in_flight, in_flight}
+use Rattle.judge.specs.Judge.{verdicts_from, first_verdicts, candidates, first_tally, demoted_slot, demoted, last_verdicts, pair_heal, heal, row_rules, verdicts, judgement, slot_at, HealNames}
 
 -- How many slots of a pair are in flight, and of a row.
 abbrev pair_in_flight : PairVerdict → ℕ
@@ -24,29 +23,18 @@ slots_in_flight (v ∷ vs) = pair_in_flight v + slots_in_flight vs
 
 -- ---- the first pass: the candidates are the slots in flight
 
-one-beside : (index : SlotIndex) (v : SlotVerdict) → pair_in_flight (winner_beside index v) ≡ cond (in_flight (winner_beside index v)) 1 0
-one-beside SlotIndex.A v = zero-add (cond (is_in_flight v) 1 0)
-one-beside SlotIndex.B v = go (is_in_flight v)
-  where
-    go : (flight : Bool) → cond flight 1 0 + 0 ≡ cond (flight || false) 1 0
-    go true = refl
-    go false = refl
-
 one-of-pair : (q : SlotIndex → Option ℕ → Bool) (case : PairCase) → pair_in_flight (pair_verdict q case) ≡ cond (in_flight (pair_verdict q case)) 1 0
 one-of-pair q PairCase.Refused = refl
 one-of-pair q PairCase.Lost = refl
-one-of-pair q (PairCase.Won index o) = one-beside index _
+one-of-pair q (PairCase.Won SlotIndex.A o) = grind arith
+one-of-pair q (PairCase.Won SlotIndex.B o) = grind arith
 
 candidates-from : (all : List Shown) (i : ℕ) (ps : List Pair) → slots_in_flight (verdicts_from all i ps) ≡ candidates (verdicts_from all i ps)
 candidates-from all i [] = refl
 candidates-from all i (p ∷ ps) = rw (one-of-pair _ (pair_case p), candidates-from all (suc i) ps, one_more)
   where
     one_more : (v : PairVerdict) (vs : List PairVerdict) → cond (in_flight v) 1 0 + candidates vs ≡ candidates (v ∷ vs)
-    one_more v vs = go (in_flight v) refl
-      where
-        go : (flight : Bool) → in_flight v ≡ flight → cond (in_flight v) 1 0 + candidates vs ≡ candidates (v ∷ vs)
-        go true is = rw is (omega arith)
-        go false is = rw is (omega arith)
+    one_more v vs = grind arith
 
 first-candidates : (ps : List Pair) → slots_in_flight (first_verdicts ps) ≡ candidates (first_verdicts ps)
 unfolding first_verdicts
@@ -55,26 +43,10 @@ first-candidates ps = candidates-from (slots ps) 0 ps
 -- ---- the second pass: at most one slot is in flight
 
 slot-demoted : (v : SlotVerdict) → is_in_flight (demoted_slot v) ≡ false
-slot-demoted SlotVerdict.Winner = refl
-slot-demoted SlotVerdict.Nothing = refl
-slot-demoted SlotVerdict.OlderDamaged = refl
-slot-demoted SlotVerdict.InFlight = refl
-slot-demoted SlotVerdict.Damage = refl
-
--- What a pair with a slot in flight is demoted to.
-abbrev damaged : PairVerdict → PairVerdict
-damaged v = record { standing = Standing.Unconfirmed; winner = v.winner; a = demoted_slot v.a; b = demoted_slot v.b }
-
-damaged-none : (v : PairVerdict) → pair_in_flight (damaged v) ≡ 0
-damaged-none v = rw (slot-demoted v.a, slot-demoted v.b)
+slot-demoted v = grind arith
 
 demoted-none : (v : PairVerdict) → pair_in_flight (demoted true v) ≡ 0
-demoted-none v = go (is_in_flight v.a) (is_in_flight v.b) refl refl
-  where
-    go : (x y : Bool) → is_in_flight v.a ≡ x → is_in_flight v.b ≡ y → pair_in_flight (cond (x || y) (damaged v) v) ≡ 0
-    go true y a-is b-is = damaged-none v
-    go false true a-is b-is = damaged-none v
-    go false false a-is b-is = rw (a-is, b-is)
+demoted-none v = grind (arith, slot-demoted)
 
 demoted-most : (demote : Bool) (v : PairVerdict) → pair_in_flight (demoted demote v) ≤ pair_in_flight v
 demoted-most true v = omega (arith, demoted-none v)
@@ -92,11 +64,7 @@ last-most volume page (v ∷ vs) = omega (arith, demoted-most volume v, last-mos
 all-demoted : (ps : List Pair) (clean : Bool) → eqb (candidates (first_verdicts ps)) 1 ≡ false
     → ((row_rules ps clean).volume_demote ≡ true) × ((row_rules ps clean).page_demote ≡ true)
 unfolding row_rules first_tally
-all-demoted ps clean several = (rw several, rw several (either (mark_counts clean (volume_verdict (first_verdicts ps))) (any_trouble (first_verdicts ps))))
-  where
-    either : (mark rest : Bool) → (mark || true) || rest ≡ true
-    either true rest = refl
-    either false rest = refl
+all-demoted ps clean several = (grind (arith, several), grind (arith, several))
 
 pub one-in-flight : (ps : List Pair) (clean : Bool) → slots_in_flight (verdicts ps clean) ≤ 1
 unfolding verdicts
@@ -113,11 +81,7 @@ one-in-flight ps clean = go (eqb (candidates (first_verdicts ps)) 1) refl
 -- ---- the slot to heal
 
 is-in-flight : (v : SlotVerdict) → is_in_flight v ≡ true → v ≡ SlotVerdict.InFlight
-is-in-flight SlotVerdict.Winner is = cc
-is-in-flight SlotVerdict.Nothing is = cc
-is-in-flight SlotVerdict.OlderDamaged is = cc
-is-in-flight SlotVerdict.InFlight is = refl
-is-in-flight SlotVerdict.Damage is = cc
+is-in-flight v is = grind (arith, is)
 
 -- What is named among the pairs from the ith on is in flight.
 Named : List PairVerdict → ℕ → Option (ℕ × SlotIndex) → Type 0
@@ -138,35 +102,20 @@ named (v ∷ vs) i = go (heal (i + 1) vs) (named vs (i + 1))
     go None none = own (is_in_flight v.a) (is_in_flight v.b) refl refl
     go (Some h) (k, (place, flies)) = (suc k, (omega (arith, place), flies))
 
--- Where none is in flight none is named,
-pair-none : (i : ℕ) (v : PairVerdict) → pair_in_flight v ≡ 0 → pair_heal i v ≡ None
-pair-none i v idle = go (is_in_flight v.a) (is_in_flight v.b) refl refl idle
-  where
-    go : (a b : Bool) → is_in_flight v.a ≡ a → is_in_flight v.b ≡ b → cond a 1 0 + cond b 1 0 ≡ 0 → pair_heal i v ≡ None
-    go true b a-is b-is idle = absurd (omega arith)
-    go false true a-is b-is idle = absurd (omega arith)
-    go false false a-is b-is idle = rw (a-is, b-is)
-
+-- Where none is in flight none is named, and where one is, it is named.
 none_named : (i : ℕ) (vs : List PairVerdict) → slots_in_flight vs ≡ 0 → heal i vs ≡ None
 none_named i [] idle = refl
-none_named i (v ∷ vs) idle = rw (none_named (i + 1) vs (omega arith)) (pair-none i v (omega arith))
+none_named i (v ∷ vs) idle = rw (none_named (i + 1) vs (omega arith)) (pair-none (omega arith))
+  where
+    pair-none : pair_in_flight v ≡ 0 → pair_heal i v ≡ None
+    pair-none idle = grind (arith, idle)
 
--- and where one is, it is named.
 pair-named : (i : ℕ) (v : PairVerdict) (index : SlotIndex) → pair_in_flight v ≤ 1 → by_index index v.a v.b ≡ SlotVerdict.InFlight
     → (pair_heal i v ≡ Some (i, index)) × (pair_in_flight v ≡ 1)
-pair-named i v SlotIndex.A most flies = rw flies (go (is_in_flight v.b) (rw flies at most))
-  where
-    go : (b : Bool) → 1 + cond b 1 0 ≤ 1
-        → (cond {A = Option (ℕ × SlotIndex)} b (Some (i, SlotIndex.B)) (Some (i, SlotIndex.A)) ≡ Some (i, SlotIndex.A)) × (1 + cond b 1 0 ≡ 1)
-    go true most = absurd (omega arith)
-    go false most = (refl, refl)
-pair-named i v SlotIndex.B most flies = rw flies (refl, go (is_in_flight v.a) (rw flies at most))
-  where
-    go : (a : Bool) → cond a 1 0 + 1 ≤ 1 → cond a 1 0 + 1 ≡ 1
-    go true most = absurd (omega arith)
-    go false most = refl
+pair-named i v SlotIndex.A most flies = (grind (arith, most, flies), grind (arith, most, flies))
+pair-named i v SlotIndex.B most flies = (grind (arith, most, flies), grind (arith, most, flies))
 
-one-named : (i : ℕ) (vs : List PairVerdict) (k : ℕ) (index : SlotIndex) → slots_in_flight vs ≤ 1 → slot_at vs k index ≡ SlotVerdict.InFlight
+pub one-named : (i : ℕ) (vs : List PairVerdict) (k : ℕ) (index : SlotIndex) → slots_in_flight vs ≤ 1 → slot_at vs k index ≡ SlotVerdict.InFlight
     → heal i vs ≡ Some (i + k, index)
 one-named i [] k index most flies = cc
 one-named i (v ∷ vs) zero index most flies =

@@ -6,3 +6,4 @@ pub mod FrameLaws
 pub mod HealLaws
 pub mod PartLaws
 pub mod SameLaws
+pub mod JudgeExamples

@@ -1,5 +1,5 @@
 -- A slot's part of a frame shows what the slot as read shows, whatever stands in the fields that are not given, and is read back from its bytes.
-use Rattle.std.proofs.Common.{◌≡◌, refl, Bool, true, false, cond, ◌&&◌, List, [], ◌∷◌, ◌++◌, ℕ, ◌+◌, ◌<◌, ◌≤◌, arith, ne_eqb, leb, length, drop, get_or, drop-cons, Option, Some, None}
+use Rattle.std.proofs.Common.{◌≡◌, refl, Bool, true, cond, List, [], ◌∷◌, ◌++◌, ℕ, ◌+◌, ◌<◌, arith, ne_eqb, leb, length, get_or, drop-cons, Option, Some, None}
 use Rattle.codec.proofs.ReadLaws.{Rest, onward, value_u32, value_u64}
 use Rattle.std.specs.Int.{w32, w64, to_le_bytes}
 use Rattle.slot.specs.Status.{code}
@@ -9,7 +9,7 @@ use Rattle.slot.specs.declared.slot.NumberedHeader.{NumberedHeader}
 use Rattle.judge.specs.declared.pairs.Version.{Version}
 use Rattle.judge.specs.declared.part.SlotPart.{SlotPart}
 use Rattle.judge.specs.Part.{part_of, part_bytes, part_at, part_shown, is_in_range, facts_number, header_number}
-use Rattle.judge.specs.Records.{shown_of, payload_shown}
+use Rattle.judge.specs.Records.{shown_of}
 use Rattle.judge.specs.Same.{filled, NothingGiven, ChecksumGiven, VersionFits}
 
 -- ---- what it shows, and its range
@@ -59,8 +59,7 @@ unfolding filled
 part-in-range rest st f = simp ((shows rest st f).1, facts-small f)
 
 either-below : (given : Bool) (x y n : ℕ) → x < n → y < n → cond given x y < n
-either-below true x y n below other = below
-either-below false x y n below other = other
+either-below given x y n below other = grind (arith, below, other)
 
 pub filled-fits : (rest : Version) (p : SlotPart) → VersionFits p.version → VersionFits rest → VersionFits (filled rest p).version
 unfolding filled

@@ -1,13 +1,12 @@
 -- The frames filled from a row of pairs stand for that row, so that the judge over them judges it: there is an error only for an empty row,
 -- another room than the verdicts need, and a mark out of range.
-use Rattle.std.proofs.Common.{◌≡◌, refl, sym, ap, ap₂, ◌∙◌, Bool, true, false, ◌&&◌, List, [], ◌∷◌, ◌++◌, ℕ, zero, suc, ◌+◌, ◌*◌, ◌%◌, arith, eqb, leb, length, map, flat_map, take, drop, length-append, take_at, drop_at, append-nil, Option, Some, None}
+use Rattle.std.proofs.Common.{◌≡◌, refl, sym, ap, ap₂, ◌∙◌, Bool, true, false, ◌&&◌, List, [], ◌∷◌, ◌++◌, ℕ, ◌*◌, arith, eqb, leb, length, map, length-append, take_at, drop_at, append-nil, Option, Some, None}
 use Rattle.std.specs.List.{list_all}
 use Rattle.std.specs.Simd.{first_chunks}
 use Rattle.codec.proofs.ReadLaws.{start, onward}
 use Rattle.judge.specs.declared.pairs.Pair.{Pair}
 use Rattle.judge.specs.declared.part.SlotPart.{SlotPart}
 use Rattle.judge.specs.declared.verdict.PairVerdict.{PairVerdict}
-use Rattle.judge.specs.declared.verdict.Judgement.{Judgement}
 use Rattle.judge.specs.declared.verdict.JudgeError.{JudgeError}
 use Rattle.judge.specs.declared.records.PairRead.{PairRead}
 use Rattle.judge.specs.Part.{part_bytes, part_at, part_shown, is_in_range}
@@ -73,13 +72,12 @@ length-pairs [] = refl
 length-pairs (f ∷ fs) = simp (length-pairs fs)
 
 and-true : (x : Bool) → x && true ≡ x
-and-true true = refl
-and-true false = refl
+and-true x = grind arith
 
 -- ---- the judge over them
 
 -- The error of so many pairs.
-abbrev framed_error : List PairRead → ℕ → ℕ → Option JudgeError
+abbrev pub framed_error : List PairRead → ℕ → ℕ → Option JudgeError
 framed_error ps clean room = error (eqb (length ps) 0) true (eqb room (length ps * verdict_width)) (leb clean 1)
 
 module _ (fs : List Framed) (fits : AllFit fs) where
@@ -98,13 +96,13 @@ module _ (fs : List Framed) (fits : AllFit fs) where
       ∙ ap₂ (λ (n : ℕ) (within : Bool). error (eqb n 0) true (eqb room (n * verdict_width)) within) count-is
       (ap (λ x. leb clean 1 && x) (ap (list_all pair_in_range) frames-are ∙ all-in-range fs fits) ∙ and-true (leb clean 1))
 
-  answer-is : (clean room : ℕ)
+  pub answer-is : (clean room : ℕ)
       → judge_frames (frames_of fs) clean room
       ≡ unless (framed_error (pairs_of fs) clean room) (judgement (map pair_read (pairs_of fs)) (eqb clean 1))
   unfolding judge_frames
   answer-is clean room = rw (error-is clean room, row-is)
 
-  verdicts-are : (clean : ℕ) (out : List ℕ)
+  pub verdicts-are : (clean : ℕ) (out : List ℕ)
       → frames_left (frames_of fs) clean out
       ≡ left (framed_error (pairs_of fs) clean (length out)) (row_bytes (verdicts (map pair_read (pairs_of fs)) (eqb clean 1))) out
   unfolding frames_left
