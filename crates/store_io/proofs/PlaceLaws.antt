@@ -1,6 +1,5 @@
 -- The numbers that C is given of the winner's payload: where a part lies that is the payload of its slot.
-use Rattle.std.proofs.Common.{◌≡◌, refl, sym, ap, subst, ◌∙◌, ℕ, ◌+◌, ◌≤◌, List, length, take, drop, arith, le-ltb, length-drop, length-take-le, Bor, Some}
-use Rattle.std.specs.Prelude.{nat_lt}
+use Rattle.std.proofs.Common.{◌≡◌, refl, sym, ap, subst, ◌∙◌, ℕ, ◌+◌, ◌≤◌, List, length, drop, arith, le-ltb, length-drop, length-take-le, Bor, Some}
 use Rattle.codec.specs.Place.{Part}
 use Rattle.slot.specs.Payload.{payload_start, payload_length}
 use Rattle.slot.specs.Status.{slot_number}

@@ -199,7 +199,8 @@ pub extern "C" fn sio_entry_name(entry: &[u8], name: &mut [u8; 24], name_len: &m
     };
     match raw.name() {
         Some(found) => {
-            *name = found.bytes;
+            let bytes = found.bytes;
+            *name = bytes;
             *name_len = found.len;
         }
         None => {
@@ -226,8 +227,9 @@ pub extern "C" fn sio_entry_name_and_kind(
     };
     match raw.name_and_kind() {
         Some((found, found_kind)) => {
+            let bytes = found.bytes;
             *kind = found_kind.to_u8();
-            *name = found.bytes;
+            *name = bytes;
             *name_len = found.len;
         }
         None => {

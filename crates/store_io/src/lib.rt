@@ -12,5 +12,6 @@ pub mod names;
 pub mod pages;
 pub mod pairs;
 pub mod slots;
+pub mod tables;
 pub mod volumes;
 pub mod winners;

@@ -8,16 +8,13 @@ ghost use Rattle.store_io.specs.Metadata.{name_found};
 use meta::meta::{MetaError, RegionName};
 
 // Hands over a name that is one.
-fn give(
-    named: Result<RegionName, MetaError>,
-    stored: &mut [u8; 24],
-    stored_len: &mut u8,
-) -> u32
+fn give(named: Result<RegionName, MetaError>, stored: &mut [u8; 24], stored_len: &mut u8) -> u32
     ensures { (result, (stored.new, stored_len.new)) ≡ answer number name_found (stored.old, stored_len.old) named }
 {
     match named {
         Ok(name) => {
-            *stored = name.bytes;
+            let bytes = name.bytes;
+            *stored = bytes;
             *stored_len = name.len;
             0
         }

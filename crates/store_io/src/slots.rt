@@ -8,8 +8,8 @@ ghost use Rattle.store_io.specs.Host.{encoded};
 ghost use Rattle.store_io.specs.Slots.{status_answer, facts_values, facts_answer, part_answer};
 
 use crate::arguments::{expect_of, index_of, volume_id};
-use judge::part::{SlotPart, facts_number};
 use judge::pairs::Version;
+use judge::part::{PART, SlotPart, facts_number};
 use slot::encode::encode;
 use slot::slot::{HeaderFacts, SlotFields};
 use slot::validate::{header_facts, read_slot, validate};
@@ -144,7 +144,7 @@ pub extern "C" fn sio_frame_slot(
     log2_slot_size: u8,
     format_major: u16,
     numbered: u32,
-    part: &mut [u8; 26],
+    part: &mut [u8; PART],
 ) -> u32
     ensures { (result, part.new) ≡ part_answer slot.now (expect_of volume0 volume1 object_id slot_offset index log2_slot_size format_major numbered) }
 {

@@ -1,18 +1,14 @@
 -- `sio_winner_payload` meets its contract: the winner's payload lies within its slot, so its start is the one that the slot's facts give.
-use Rattle.std.proofs.Common.{◌≡◌, sym, ◌∙◌, ap, subst, ℕ, List, length, Some, rules}
-use Rattle.slot.specs.declared.slot.SlotIndex.{SlotIndex}
-use Rattle.slot.specs.declared.slot.SlotInfo.{SlotInfo}
+use Rattle.std.proofs.Common.{◌≡◌, sym, ◌∙◌, ap, subst, length, Some}
 use Rattle.pair.specs.Pair.{winner_info}
 use Rattle.pair.specs.Winner.{WinnerPart}
 use Rattle.pair.specs.declared.pair.PairReport.{PairReport}
 use Rattle.pair.proofs.WinnerLaws.{winner_fits}
-use Rattle.store_io.specs.Arguments.{expect_of}
 use Rattle.store_io.specs.Winners.{pair_of}
 use Rattle.store_io.proofs.PlaceLaws.{Placed, placed}
 use Rattle.store_io.proofs.winners.sio_winner_payload.Goals as goal
 
 module _ (c : goal.After-from-2) where
-
   abbrev pair : PairReport
   pair = pair_of c.args.a.now c.args.b.now c.args.volume0 c.args.volume1 c.args.object_id c.args.a_offset c.args.b_offset c.args.log2_slot_size c.args.format_major c.args.numbered
 
