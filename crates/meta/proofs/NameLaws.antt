@@ -90,6 +90,10 @@ named-name s copied rest is same zeros = rw (is, same, zeros) refl
 pub room : (s zeros : List ℕ) → is_name s ≡ true → length zeros ≡ 24 → length (take (length s) zeros) ≡ length s
 room s zeros is size = length-take-le (length s) zeros (omega (arith, size, name_length s is))
 
+pub copied : (s zeros t : List ℕ) → is_name s ≡ true → length zeros ≡ 24
+    → t ≡ (if length (take (length s) zeros) == length s then s else take (length s) zeros) → t ≡ s
+copied s zeros t is size copy = copy ∙ rw (eq-eqb (length (take (length s) zeros)) (length s) (room s zeros is size)) refl
+
 -- What is given is the name as it is stored, and the bytes were a name.
 given : (s : List ℕ) (name : RegionName) → named s ≡ Ok name → (is_name s ≡ true) × (name ≡ stored_name s)
 unfolding name_of

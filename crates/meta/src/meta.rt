@@ -22,7 +22,7 @@ ghost use Rattle.meta.specs.Scalar.{GrammarEncodes};
 ghost use Rattle.meta.specs.Name.{is_name, zero_at, named, padded, text, name_text, NamesAre, NamesBack};
 ghost use Rattle.meta.specs.Base.{base_at, check_base, decode_base, base_row, encode_base, BasesBack};
 
-use codec::codec::{Reader, Writer};
+use codec::codec::{Reader, Writer, copy};
 use std::error::Error;
 use std::fmt;
 use std::str;
@@ -256,7 +256,7 @@ impl RegionName {
             return Err(MetaError::Field(Field::Name));
         }
         let mut bytes = [0u8; NAME_MAX];
-        bytes[..name.len()].copy_from_slice(name);
+        copy(&mut bytes[..name.len()], name);
         Ok(Self {
             bytes,
             len: name.len() as u8,
