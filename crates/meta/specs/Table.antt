@@ -1,6 +1,6 @@
 -- The numbers of all refusals and the places of all fields of metadata, spelled out on examples (docs/FORMAT.md, "The volume record",
 -- "Pages", "Entries" and "Refusals"): a definition that is changed together with its code is still told by these.
-use Rattle.std.specs.Prelude.{◌≡◌, ◌<◌, true, false, List, [], ◌∷◌, ◌++◌, ℕ, length, take, map, replicate, Option, Some, None, Result, Ok, Err}
+use Rattle.std.specs.Prelude.{◌≡◌, ◌<◌, true, List, [], ◌∷◌, ◌++◌, ℕ, length, take, map, replicate, Some, None, Result, Ok, Err}
 use Rattle.codec.specs.Bytes.{put}
 use Rattle.meta.specs.declared.meta.Field.{Field}
 use Rattle.meta.specs.declared.meta.MetaError.{MetaError}
@@ -17,7 +17,7 @@ use Rattle.meta.specs.Base.{decode_base, base_bytes, encode_base}
 use Rattle.meta.specs.Volume.{decode_volume, volume_bytes, encode_volume, table_end, check_file_len}
 use Rattle.meta.specs.Entry.{read_entry, entry_bytes, write_entry, reserved_span}
 use Rattle.meta.specs.Check.{check_entry}
-use Rattle.meta.specs.Page.{decode_page, entries, header_bytes, stored_part, encode_page}
+use Rattle.meta.specs.Page.{decode_page, entries, header_bytes, encode_page}
 
 -- The number of a refusal, 0 for none.
 abbrev pub answer : {A : Type 0} → Result A MetaError → ℕ

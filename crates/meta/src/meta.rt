@@ -24,8 +24,7 @@ ghost use Rattle.meta.specs.Base.{base_at, check_base, decode_base, base_row, en
 
 use codec::codec::{Reader, Writer, copy};
 use std::error::Error;
-use std::fmt;
-use std::str;
+use std::{fmt, str};
 
 /// A field whose value is refused.
 #[derive(Clone, Copy, PartialEq, Eq, Debug)]
@@ -142,7 +141,8 @@ impl fmt::Display for Field {
             Field::DataSize => "the region's data exceeds its capacity",
             Field::Span => "the region's span is empty or ends behind the file",
             Field::Capacity => "the region's capacity is zero or exceeds its span",
-            Field::Header => "the region's two headers are not in its span behind the table, in two places",
+            Field::Header =>
+                "the region's two headers are not in its span behind the table, in two places",
             Field::FootprintSeq => "the footprint's number is zero or above the page's",
             Field::Slot => "a slot region has extents or a data area",
             Field::ExtentCount => "the region has no extent",

@@ -657,7 +657,11 @@ impl RawEntry {
         let block = block_size(lim.log2_block);
         let start = (self.span_start - self.span_start % block).max(lim.table_end);
         let end = whole_up(self.span_end, block).min(lim.file_len);
-        if start < end { Some((start, end)) } else { None }
+        if start < end {
+            Some((start, end))
+        } else {
+            None
+        }
     }
 }
 
