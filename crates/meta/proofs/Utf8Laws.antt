@@ -1,5 +1,5 @@
 -- Bytes are UTF-8 by the grammar of RFC 3629 if and only if they are the encoding of a run of scalar values.
-use Rattle.std.proofs.Common.{◌≡◌, refl, sym, ap, ap₂, ◌∙◌, subst, Bool, true, false, ◌<◌, lt-ltb, le-ltb, le-leb, ◌&&◌, List, [], ◌∷◌, ◌++◌, ℕ, zero, suc, ◌≤◌, arith, eq-eqb, ne_eqb, eqb-true, eqb, length, take, drop, length-append, take-append-drop}
+use Rattle.std.proofs.Common.{◌≡◌, refl, sym, ap, ap₂, ◌∙◌, subst, Bool, true, false, lt-ltb, le-ltb, le-leb, ◌&&◌, List, [], ◌∷◌, ◌++◌, ℕ, zero, suc, ◌≤◌, arith, eq-eqb, ne_eqb, eqb-true, eqb, length, take, drop, length-append, take-append-drop}
 use Rattle.std.proofs.Math.Bool.{and-eq-true_iff, or-true}
 use Rattle.std.specs.Char.{encode_utf8, IsScalar}
 use Rattle.std.specs.Str.{IsUtf8, encode_utf8_all, all_scalars}

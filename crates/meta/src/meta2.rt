@@ -49,6 +49,7 @@ ghost use Rattle.meta.specs.Name.{name_in};
 ghost use Rattle.meta.specs.Volume.{tail_at, check_tail, decode_volume, volume_row, encode_volume, table_end, check_file_len, TailLayout, VolumesBack};
 ghost use Rattle.meta.specs.Entry.{read_entry, entry_row, write_entry, name_and_kind, whole_up, reserved_span, to_raw, EntryLayout};
 ghost use Rattle.meta.specs.Check.{check_span, check_header, check_footprint, check_content, check_sizes, check_entry, EntriesBack};
+ghost use Rattle.meta.specs.Table.{Table};
 ghost use Rattle.meta.specs.Page.{header_at, decode_page, Gives, parts, entries, seq, shares, check_own, check_entries, header_row, stored_part, encode_page, HeaderLayout, PagesBack};
 
 use crate::meta::{
@@ -519,7 +520,9 @@ impl RawEntry {
         self.check_header(self.header_b, lim)?;
         self.check_footprint(lim)?;
         self.check_content(kind)?;
-        self.check_sizes(kind, lim)?;
+        let Ok(_) = self.check_sizes(kind, lim) else {
+            return Err(MetaError::Unaligned);
+        };
         Ok(Entry2 {
             seq: self.seq,
             kind,
@@ -610,7 +613,7 @@ impl RawEntry {
     }
 
     /// Whole data blocks; of 512 bytes in an append region.
-    #[tactic(auto, unfolding(crate::specs::Check::check_sizes), using(crate::proofs::BlockLaws::block_range))]
+    #[tactic(auto, using(crate::proofs::BlockLaws::block_range))]
     fn check_sizes(&self, kind: RegionKind, lim: &EntryLimits) -> Result<(), MetaError>
         ensures { result ≡ check_sizes self.now kind lim.now }
     {
@@ -654,7 +657,11 @@ impl RawEntry {
         let block = block_size(lim.log2_block);
         let start = (self.span_start - self.span_start % block).max(lim.table_end);
         let end = whole_up(self.span_end, block).min(lim.file_len);
-        if start < end { Some((start, end)) } else { None }
+        if start < end {
+            Some((start, end))
+        } else {
+            None
+        }
     }
 }
 
@@ -890,4 +897,10 @@ pub fn entries_back()
 #[tactic(auto, using(crate::proofs::PageLaws::pages_back))]
 pub fn pages_back()
     ensures { PagesBack }
+{}
+
+/// Does nothing: its contract is the table of all places and numbers.
+#[tactic(auto, using(crate::proofs::TableLaws::table))]
+pub fn table_law()
+    ensures { Table }
 {}
