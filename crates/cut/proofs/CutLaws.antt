@@ -1,30 +1,32 @@
 -- The slot that a cut write left, by its header: the new one, the old one, or one whose magic stands and which fails its checksum. That
 -- is the only place where the number of bytes counts.
-use Rattle.std.proofs.Common.{◌≡◌, refl, sym, ap, ◌∙◌, ◌⊎◌, inl, inr, Bool, true, false, cond, List, ◌++◌, ℕ, ◌+◌, ◌≤◌, arith, eqb-true, ltb, eqb, length, take, drop, length-append, length-take, length-drop, take-take, length-take-le}
+use Rattle.std.proofs.Common.{◌≡◌, refl, sym, ap, ◌∙◌, ◌⊎◌, inl, inr, Bool, true, false, ◌==◌, nat_eq, List, ◌++◌, ℕ, ◌+◌, ◌≤◌, arith, eqb-true, length, take, drop, length-append, length-take, length-drop, take-take, length-take-le}
 use Rattle.std.proofs.Math.Seq.{take-append-le}
-use Rattle.codec.specs.Bytes.{AllBytes, le16, le32, same}
-use Rattle.codec.proofs.CursorLaws.{take-bytes, drop-bytes, append-bytes}
-use Rattle.codec.proofs.RunLaws.{same_true}
-use Rattle.slot.specs.Read.{magic, headerSum}
-use Rattle.cut.specs.Cut.{cut, CutPoint, standsWhole, headerPasses, Accident}
+use lib.Pointwise.{pointwise, bytes_decides}
+use Rattle.codec.specs.Bytes.{AllBytes, le16, le32}
+use Rattle.codec.proofs.ByteLaws.{take-bytes, drop-bytes, append-bytes}
+use Rattle.slot.specs.Header.{magic}
+use Rattle.slot.specs.Read.{header_sum}
+use Rattle.slot.proofs.Tests.{both}
+use Rattle.cut.specs.Cut.{cut, CutPoint, stands_whole, header_passes, Accident}
 use Rattle.cut.specs.Laws.{FailedSum, FailedPayload}
-use Rattle.cut.proofs.StatusLaws.{false-true, same-is}
+use Rattle.cut.proofs.StatusLaws.{false_true}
 
-pub not_same : (s t : List ℕ) → (s ≡ t → ⊥) → same s t ≡ false
-not_same s t differ = go (same s t) refl
+pub not_same : (s t : List ℕ) → (s ≡ t → ⊥) → pointwise nat_eq s t ≡ false
+not_same s t differ = go (pointwise nat_eq s t) refl
   where
-    go : (test : Bool) → same s t ≡ test → same s t ≡ false
-    go true is = absurd (differ (same_true s t is))
+    go : (test : Bool) → pointwise nat_eq s t ≡ test → pointwise nat_eq s t ≡ false
+    go true is = absurd (differ ((bytes_decides s t).0 is))
     go false is = is
 
-pub differ : (s t : List ℕ) → same s t ≡ false → s ≡ t → ⊥
-differ s t not_equal is = false-true {A = ⊥} not_equal (same-is s t is)
+pub differ : (s t : List ℕ) → pointwise nat_eq s t ≡ false → s ≡ t → ⊥
+differ s t not_equal is = false_true {A = ⊥} not_equal ((bytes_decides s t).1 is)
 
 -- ---- the cut's bytes
 
-pub cut-bytes : (k : ℕ) (new old : List ℕ) → AllBytes new → AllBytes old → AllBytes (cut k new old)
+pub cut_bytes : (k : ℕ) (new old : List ℕ) → AllBytes new → AllBytes old → AllBytes (cut k new old)
 unfolding cut
-cut-bytes k new old new-all old-all = append-bytes (take k new) (drop k old) (take-bytes k new new-all) (drop-bytes k old old-all)
+cut_bytes k new old new_all old_all = append-bytes (take k new) (drop k old) (take-bytes k new new_all) (drop-bytes k old old_all)
 
 module _ (k : ℕ) (new old : List ℕ) (sizes : length old ≡ length new) (point : CutPoint k (length new)) where
   within : k ≤ length new
@@ -39,9 +41,9 @@ module _ (k : ℕ) (new old : List ℕ) (sizes : length old ≡ length new) (poi
   length_cut = simp (length-append, length-take, length-drop) (omega (arith, within))
 
   -- No byte arrived, or the magic did.
-  old-or-magic : take 8 new ≡ magic → (cut k new old ≡ old) ⊎ (take 8 (cut k new old) ≡ magic)
+  old_or_magic : take 8 new ≡ magic → (cut k new old ≡ old) ⊎ (take 8 (cut k new old) ≡ magic)
   unfolding cut
-  old-or-magic stands = go point
+  old_or_magic stands = go point
     where
       go : CutPoint k (length new) → (take k new ++ drop k old ≡ old) ⊎ (take 8 (take k new ++ drop k old) ≡ magic)
       go (inl none) = inl (ap (λ (n : ℕ). take n new ++ drop n old) none)
@@ -54,56 +56,47 @@ module _ (k : ℕ) (new old : List ℕ) (sizes : length old ≡ length new) (poi
 -- ---- the slot by its header
 
 pub data Header (s old new : List ℕ) : Type 0 where
-  is-new : take 128 s ≡ take 128 new → Header s old new
-  is-old : (take 128 s ≡ take 128 new → ⊥) → take 128 s ≡ take 128 old → Header s old new
-  fails : (take 128 s ≡ take 128 new → ⊥) → take 8 s ≡ magic → headerPasses s ≡ false → Header s old new
+  is_new : take 128 s ≡ take 128 new → Header s old new
+  is_old : (take 128 s ≡ take 128 new → ⊥) → take 128 s ≡ take 128 old → Header s old new
+  fails : (take 128 s ≡ take 128 new → ⊥) → take 8 s ≡ magic → header_passes s ≡ false → Header s old new
 
 header_of : (s old new payload : List ℕ) → (Accident s old new payload → ⊥) → (s ≡ old) ⊎ (take 8 s ≡ magic) → Header s old new
-header_of s old new payload none = go (same (take 128 s) (take 128 new)) refl
+header_of s old new payload none = go (pointwise nat_eq (take 128 s) (take 128 new)) refl
   where
-    by_old : (test : Bool) → same (take 128 s) (take 128 old) ≡ test → (take 128 s ≡ take 128 new → ⊥) → headerPasses s ≡ true → Header s old new
-    by_old true is not_new passes = is-old not_new (same_true (take 128 s) (take 128 old) is)
+    by_old : (test : Bool) → pointwise nat_eq (take 128 s) (take 128 old) ≡ test → (take 128 s ≡ take 128 new → ⊥) → header_passes s ≡ true → Header s old new
+    by_old true is not_new passes = is_old not_new ((bytes_decides (take 128 s) (take 128 old)).0 is)
     by_old false is not_new passes = absurd (none (Accident.header passes (differ (take 128 s) (take 128 old) is) not_new))
 
-    by-sum : (test : Bool) → headerPasses s ≡ test → (take 128 s ≡ take 128 new → ⊥) → take 8 s ≡ magic → Header s old new
-    by-sum true is not_new stands = by_old (same (take 128 s) (take 128 old)) refl not_new is
-    by-sum false is not_new stands = fails not_new stands is
+    by_sum : (test : Bool) → header_passes s ≡ test → (take 128 s ≡ take 128 new → ⊥) → take 8 s ≡ magic → Header s old new
+    by_sum true is not_new stands = by_old (pointwise nat_eq (take 128 s) (take 128 old)) refl not_new is
+    by_sum false is not_new stands = fails not_new stands is
 
-    go : (test : Bool) → same (take 128 s) (take 128 new) ≡ test → (s ≡ old) ⊎ (take 8 s ≡ magic) → Header s old new
-    go true is either = is-new (same_true (take 128 s) (take 128 new) is)
-    go false is (inl kept) = is-old (differ (take 128 s) (take 128 new) is) (ap (take 128) kept)
-    go false is (inr stands) = by-sum (headerPasses s) refl (differ (take 128 s) (take 128 new) is) stands
+    go : (test : Bool) → pointwise nat_eq (take 128 s) (take 128 new) ≡ test → (s ≡ old) ⊎ (take 8 s ≡ magic) → Header s old new
+    go true is either = is_new ((bytes_decides (take 128 s) (take 128 new)).0 is)
+    go false is (inl kept) = is_old (differ (take 128 s) (take 128 new) is) (ap (take 128) kept)
+    go false is (inr stands) = by_sum (header_passes s) refl (differ (take 128 s) (take 128 new) is) stands
 
-pub cut-header : (k : ℕ) (new old payload : List ℕ) → length old ≡ length new → CutPoint k (length new) → take 8 new ≡ magic
+pub cut_header : (k : ℕ) (new old payload : List ℕ) → length old ≡ length new → CutPoint k (length new) → take 8 new ≡ magic
     → (Accident (cut k new old) old new payload → ⊥) → Header (cut k new old) old new
-cut-header k new old payload sizes point stands none =
-    header_of (cut k new old) old new payload none (old-or-magic k new old sizes point stands)
+cut_header k new old payload sizes point stands none =
+    header_of (cut k new old) old new payload none (old_or_magic k new old sizes point stands)
 
--- A header that passes has the sum that it stores,
-passed-sum : (s : List ℕ) → headerPasses s ≡ true → headerSum s (le16 s 12) ≡ le32 s 8
-unfolding headerPasses
-passed-sum s = go (ltb (le16 s 12) 128) (ltb (length s) (le16 s 12))
-  where
-    go : (short past : Bool) → cond short false (cond past false (eqb (headerSum s (le16 s 12)) (le32 s 8))) ≡ true
-        → headerSum s (le16 s 12) ≡ le32 s 8
-    go true past is = false-true refl is
-    go false true is = false-true refl is
-    go false false is = eqb-true _ _ is
-
--- so that there is no accident where the sum of a header other than the new one is not the one that it stores.
-pub failed-sum : FailedSum
-failed-sum s old new payload not_new not-stored (Accident.header passes not-old other) = not-stored (passed-sum s passes)
-failed-sum s old new payload not_new not-stored (Accident.payload same-header other passes) = not_new same-header
+-- There is no accident where the sum of a header other than the new one is not the one that it stores.
+pub failed_sum : FailedSum
+unfolding header_passes
+failed_sum s old new payload not_new not_stored (Accident.header passes not_old other) =
+    not_stored (eqb-true _ _ (both _ (header_sum s (le16 s 12) == le32 s 8) passes).1)
+failed_sum s old new payload not_new not_stored (Accident.payload same_header other passes) = not_new same_header
 
 -- Nor is there one where the payload's checksum is not the stored one under the new header.
-pub failed-payload : FailedPayload
-failed-payload s old new payload same-header not-stored (Accident.header passes not-old not_new) = not_new same-header
-failed-payload s old new payload same-header not-stored (Accident.payload new-header other passes) = not-stored passes
+pub failed_payload : FailedPayload
+failed_payload s old new payload same_header not_stored (Accident.header passes not_old not_new) = not_new same_header
+failed_payload s old new payload same_header not_stored (Accident.payload new_header other passes) = not_stored passes
 
 -- Under another header the new record does not stand whole.
-pub not-whole : (s new payload : List ℕ) → (take 128 s ≡ take 128 new → ⊥) → standsWhole s new payload ≡ false
-unfolding standsWhole
-not-whole s new payload not_new =
+pub not_whole : (s new payload : List ℕ) → (take 128 s ≡ take 128 new → ⊥) → stands_whole s new payload ≡ false
+unfolding stands_whole
+not_whole s new payload not_new =
     not_same (take (128 + length payload) s) (take (128 + length payload) new)
     (λ is.
     not_new

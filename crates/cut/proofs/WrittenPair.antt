@@ -1,83 +1,98 @@
 -- The written pair after the cut, by the header and the payload that the written slot was left with: its winner stands beside a slot that
 -- a crash explains, and what is read back is the new record if it stands whole, else the record before.
-use Rattle.std.proofs.Common.{◌≡◌, refl, sym, ap, ap₂, subst, ◌∙◌, Bool, true, false, cond, List, ◌++◌, ℕ, ◌+◌, ◌≤◌, ◌<◌, le_of_eq, arith, eq-eqb, le-ltb, eqb-true, eqb, lit≤, length, take, drop, take-append-drop, drop_at, take-add, length-take-le}
-use Rattle.codec.specs.Bytes.{le16, le32, same, allZero}
+use Rattle.std.proofs.Common.{◌≡◌, refl, sym, ap, ap₂, subst, ◌∙◌, Bool, true, false, cond, nat_eq, ◌==◌, List, ◌++◌, ℕ, ◌+◌, ◌≤◌, ◌<◌, le_of_eq, arith, eq-eqb, le-ltb, eqb-true, lit≤, length, take, drop, take-append-drop, drop_at, take-add, length-take-le, Option, Some, None, Ok}
+use Rattle.std.specs.List.{list_all}
+use lib.Pointwise.{pointwise, bytes_decides}
+use Rattle.codec.specs.Bytes.{le16, le32}
 use Rattle.codec.specs.Crc32c.{crc32c}
-use Rattle.codec.proofs.RunLaws.{same_true}
 use Rattle.slot.specs.Status.{other}
-use Rattle.slot.specs.Read.{magic, lengthOk, parseHeader, payloadStart, payloadLength, payload as payloadOf, payloadOk, validate, headerFacts}
-use Rattle.slot.specs.Write.{writtenHeader}
+use Rattle.slot.specs.Payload.{payload as payload_of}
+use Rattle.slot.specs.Header.{magic, header}
+use Rattle.slot.specs.Read.{is_slot_length, is_blank, check, header_info, passes_payload, validate, header_facts}
+use Rattle.slot.specs.Write.{header_crc, written_header}
+use Rattle.slot.specs.Laws.{stored_header, info_of, SameHeader}
+use Rattle.slot.specs.declared.header.Header.{Header as SlotHeader}
 use Rattle.slot.specs.declared.slot.SlotIndex.{SlotIndex}
 use Rattle.slot.specs.declared.slot.SlotInfo.{SlotInfo}
 use Rattle.slot.specs.declared.slot.SlotStatus.{SlotStatus}
+use Rattle.slot.specs.declared.slot.HeaderFacts.{HeaderFacts}
 use Rattle.slot.specs.declared.slot.Expect.{Expect}
-use Rattle.slot.specs.declared.slot.Parsed.{Parsed}
-use Rattle.slot.proofs.ReadLaws.{length-room}
-use Rattle.slot.proofs.SlotLaws.{parse-same}
-use Rattle.encode.proofs.EncodeLaws.{infoOf, parse-written}
-use Rattle.candidate.specs.declared.pairs.MetaSeq.{MetaSeq}
-use Rattle.verdict.specs.declared.verdict.SlotVerdict.{SlotVerdict}
-use Rattle.cut.specs.Store.{Pair, accepts, slot_at, status, lastRecord, SoundPair}
-use Rattle.cut.specs.Cut.{Write, size, expect, old, new, withSlot, CorrectWrite, standsWhole, headerPasses, payloadIn, Accident}
-use Rattle.cut.proofs.StatusLaws.{same-is, false-true, Passed, parse-passed, blank-is, valid-is, bad-status, bad-facts, passed-facts, passed-status}
+use Rattle.slot.proofs.Room.{room}
+use Rattle.slot.proofs.PaddingLaws.{header_same, check_same}
+use Rattle.slot.proofs.RoundTripLaws.{header-is, check_written}
+use Rattle.judge.specs.declared.verdict.SlotVerdict.{SlotVerdict}
+use Rattle.cut.specs.Store.{Pair, accepts, slot_at, status, last_record, SoundPair}
+use Rattle.cut.specs.Cut.{Write, size, expect, old, new, with_slot, CorrectWrite, stands_whole, header_passes, payload_in, Accident}
+use Rattle.cut.proofs.StatusLaws.{false_true, passed_is, blank_is, valid_is, bad_status, bad_facts, passed_facts, passed_status}
 use Rattle.cut.proofs.JudgeLaws.{Explained}
-use Rattle.cut.proofs.PairLaws.{Stands, beside-valid, beside-blank, beside-bad, beside-new, beside-old}
-use Rattle.cut.proofs.CutLaws.{not_same, differ, Header, not-whole}
-use Rattle.cut.proofs.WriteLaws.{other-other, Older, winner-valid, winner-accepted, last-before, written_over, old-length, old-size, payload-small, fields-proper, expect-is, new-size, new-header, new-payload}
+use Rattle.cut.proofs.PairLaws.{Stands, beside_valid, beside_blank, beside_bad, beside_new, beside_old}
+use Rattle.cut.proofs.CutLaws.{not_same, differ, Header, not_whole}
+use Rattle.cut.proofs.WriteLaws.{other_other, Older, winner_valid, winner_accepted, last_before, written_over, old_length, old_size, payload_small, fields_proper, expect_is, new_size, new_header, new_payload}
 
 -- ---- a pair with other bytes in one slot
 
 module _ (p : Pair) (s : List ℕ) where
-  kept-status : (index : SlotIndex) → status (slot_at (other index) (withSlot index s p)) ≡ status (slot_at (other index) p)
-  kept-status SlotIndex.A = refl
-  kept-status SlotIndex.B = refl
+  kept_status : (index : SlotIndex) → status (slot_at (other index) (with_slot index s p)) ≡ status (slot_at (other index) p)
+  kept_status SlotIndex.A = refl
+  kept_status SlotIndex.B = refl
 
-  kept-bytes : (index : SlotIndex) → (slot_at (other index) (withSlot index s p)).bytes ≡ (slot_at (other index) p).bytes
-  kept-bytes SlotIndex.A = refl
-  kept-bytes SlotIndex.B = refl
+  kept_bytes : (index : SlotIndex) → (slot_at (other index) (with_slot index s p)).bytes ≡ (slot_at (other index) p).bytes
+  kept_bytes SlotIndex.A = refl
+  kept_bytes SlotIndex.B = refl
 
-  put-status : (index : SlotIndex) → status (slot_at index (withSlot index s p)) ≡ validate s (slot_at index p).expect
-  put-status SlotIndex.A = refl
-  put-status SlotIndex.B = refl
+  put_status : (index : SlotIndex) → status (slot_at index (with_slot index s p)) ≡ validate s (slot_at index p).expect
+  put_status SlotIndex.A = refl
+  put_status SlotIndex.B = refl
 
-  put-bytes : (index : SlotIndex) → (slot_at index (withSlot index s p)).bytes ≡ s
-  put-bytes SlotIndex.A = refl
-  put-bytes SlotIndex.B = refl
+  put_bytes : (index : SlotIndex) → (slot_at index (with_slot index s p)).bytes ≡ s
+  put_bytes SlotIndex.A = refl
+  put_bytes SlotIndex.B = refl
 
   -- The same, from the winner.
-  beside-status : (index : SlotIndex) → status (slot_at (other (other index)) (withSlot index s p)) ≡ validate s (slot_at index p).expect
-  beside-status SlotIndex.A = refl
-  beside-status SlotIndex.B = refl
+  beside_status : (index : SlotIndex) → status (slot_at (other (other index)) (with_slot index s p)) ≡ validate s (slot_at index p).expect
+  beside_status SlotIndex.A = refl
+  beside_status SlotIndex.B = refl
 
-  beside-facts : (index : SlotIndex)
-      → headerFacts (slot_at (other (other index)) (withSlot index s p)).bytes (slot_at (other (other index)) (withSlot index s p)).expect
-      ≡ headerFacts s (slot_at index p).expect
-  beside-facts SlotIndex.A = refl
-  beside-facts SlotIndex.B = refl
+  beside_facts : (index : SlotIndex)
+      → header_facts (slot_at (other (other index)) (with_slot index s p)).bytes (slot_at (other (other index)) (with_slot index s p)).expect
+      ≡ header_facts s (slot_at index p).expect
+  beside_facts SlotIndex.A = refl
+  beside_facts SlotIndex.B = refl
 
-  put-decoder : (index : SlotIndex) → (withSlot index s p).decoder ≡ p.decoder
-  put-decoder SlotIndex.A = refl
-  put-decoder SlotIndex.B = refl
+  put_decoder : (index : SlotIndex) → (with_slot index s p).decoder ≡ p.decoder
+  put_decoder SlotIndex.A = refl
+  put_decoder SlotIndex.B = refl
 
 -- ---- the payload's place, from the front of the slot
 
-payload-front : (s payload : List ℕ) → 128 ≤ length s → payloadIn s payload ≡ drop 128 (take (128 + length payload) s)
-payload-front s payload long =
+payload_front : (s payload : List ℕ) → 128 ≤ length s → payload_in s payload ≡ drop 128 (take (128 + length payload) s)
+payload_front s payload long =
     sym
-    (ap (drop 128) (take-add 128 (length payload) s) ∙ drop_at (take 128 s) (payloadIn s payload) 128 (length-take-le 128 s long))
+    (ap (drop 128) (take-add 128 (length payload) s) ∙ drop_at (take 128 s) (payload_in s payload) 128 (length-take-le 128 s long))
 
 -- What is known of the written pair: the winner, the verdict on the slot beside it, and the record r.
-pub record PairAfter (p : Pair) (qualifies : SlotIndex → MetaSeq → Bool) (index : SlotIndex) (r : List ℕ) : Type 0 where
+pub record PairAfter (p : Pair) (qualifies : SlotIndex → Option ℕ → Bool) (index : SlotIndex) (r : List ℕ) : Type 0 where
   pub winner : SlotIndex
   pub verdict : SlotVerdict
   pub explained : Explained verdict
   pub stands : Stands p qualifies winner verdict r
   pub flight : verdict ≡ SlotVerdict.InFlight → other winner ≡ index
 
-module _ (w : Write) (sound : SoundPair w.pair) (correct : CorrectWrite w) (s : List ℕ) (s-size : length s ≡ size w)
+-- The status and the facts of a header that passed every check.
+abbrev by_payload : Bool → SlotInfo → SlotStatus
+by_payload ok i = cond ok (SlotStatus.Valid i) SlotStatus.BadPayloadCrc
+
+abbrev facts_of : ℕ → SlotHeader → Option HeaderFacts
+facts_of stored h =
+    Some (record {
+      stored_header_crc32c = stored;
+      numbered = Some (record { generation = h.generation; meta_seq = h.meta_seq; prev_header_crc32c = h.prev_header_crc32c });
+    })
+
+module _ (w : Write) (sound : SoundPair w.pair) (correct : CorrectWrite w) (s : List ℕ) (s_size : length s ≡ size w)
     (none : Accident s (old w) (new w) w.payload → ⊥)
-    (qualifies : SlotIndex → MetaSeq → Bool) (unread : (index : SlotIndex) → qualifies index MetaSeq.Nothing ≡ true)
-    (qualified : qualifies w.index (MetaSeq.Number w.fields.meta_seq) ≡ true) where
+    (qualifies : SlotIndex → Option ℕ → Bool) (unread : (index : SlotIndex) → qualifies index None ≡ true)
+    (qualified : qualifies w.index (Some w.fields.meta_seq) ≡ true) where
   abbrev i : SlotInfo
   i = correct.winner
 
@@ -85,37 +100,37 @@ module _ (w : Write) (sound : SoundPair w.pair) (correct : CorrectWrite w) (s : 
   e = expect w
 
   abbrev p : Pair
-  p = withSlot w.index s w.pair
+  p = with_slot w.index s w.pair
 
   abbrev before : List ℕ
-  before = payloadOf i (slot_at (other w.index) p).bytes
+  before = payload_of i (slot_at (other w.index) p).bytes
 
   abbrev result : List ℕ
-  result = cond (standsWhole s (new w) w.payload) w.payload (lastRecord w.pair)
+  result = cond (stands_whole s (new w) w.payload) w.payload (last_record w.pair)
 
   abbrev Answer : Type 0
   Answer = PairAfter p qualifies w.index result
 
-  length-ok : lengthOk (length s) e.log2_slot_size ≡ true
-  length-ok = ap (λ (n : ℕ). lengthOk n e.log2_slot_size) (s-size ∙ sym (old-size w sound correct)) ∙ old-length w sound correct
+  length_ok : is_slot_length (length s) e.log2_slot_size ≡ true
+  length_ok = ap (λ (n : ℕ). is_slot_length n e.log2_slot_size) (s_size ∙ sym (old_size w sound correct)) ∙ old_length w sound correct
 
   long : 128 ≤ length s
-  long = let room = length-room (length s) e.log2_slot_size length-ok in omega arith
+  long = let large = room (length s) e.log2_slot_size length_ok in omega arith
 
   -- The winner is as it was.
   valid : status (slot_at (other w.index) p) ≡ SlotStatus.Valid i
-  valid = kept-status w.pair s w.index ∙ winner-valid w sound correct
+  valid = kept_status w.pair s w.index ∙ winner_valid w sound correct
 
-  before-is : before ≡ lastRecord w.pair
-  before-is = ap (payloadOf i) (kept-bytes w.pair s w.index) ∙ sym (last-before w sound correct)
+  before_is : before ≡ last_record w.pair
+  before_is = ap (payload_of i) (kept_bytes w.pair s w.index) ∙ sym (last_before w sound correct)
 
   takes : accepts p.decoder before ≡ true
   takes =
-      ap₂ (λ d (r : List ℕ). accepts d r) (put-decoder w.pair s w.index) (ap (payloadOf i) (kept-bytes w.pair s w.index))
-      ∙ winner-accepted w sound correct
+      ap₂ (λ d (r : List ℕ). accepts d r) (put_decoder w.pair s w.index) (ap (payload_of i) (kept_bytes w.pair s w.index))
+      ∙ winner_accepted w sound correct
 
   -- The record before is read back where the new one does not stand whole.
-  kept : {v : SlotVerdict} → standsWhole s (new w) w.payload ≡ false → Explained v → Stands p qualifies (other w.index) v before → Answer
+  kept : {v : SlotVerdict} → stands_whole s (new w) w.payload ≡ false → Explained v → Stands p qualifies (other w.index) v before → Answer
   kept {v} torn explained stands =
       record {
         winner = other w.index;
@@ -123,119 +138,134 @@ module _ (w : Write) (sound : SoundPair w.pair) (correct : CorrectWrite w) (s : 
         explained = explained;
         stands =
             subst (λ (r : List ℕ). Stands p qualifies (other w.index) v r)
-            (before-is ∙ sym (ap (λ (b : Bool). cond b w.payload (lastRecord w.pair)) torn))
+            (before_is ∙ sym (ap (λ (b : Bool). cond b w.payload (last_record w.pair)) torn))
             stands;
-        flight = λ is. other-other w.index;
+        flight = λ is. other_other w.index;
       }
 
   -- ---- a header that fails its checksum
 
-  on-failing : (take 128 s ≡ take 128 (new w) → ⊥) → take 8 s ≡ magic → headerPasses s ≡ false → Answer
-  on-failing not_new stands fails =
+  on_failing : (take 128 s ≡ take 128 (new w) → ⊥) → take 8 s ≡ magic → header_passes s ≡ false → Answer
+  on_failing not_new stands fails =
       let beside =
-      beside-bad p (other w.index) i valid qualifies takes (le32 s 8)
-      (beside-status w.pair s w.index ∙ bad-status s e length-ok stands fails)
-      (beside-facts w.pair s w.index ∙ bad-facts s e length-ok stands fails)
+      beside_bad p (other w.index) i valid qualifies takes (le32 s 8)
+      (beside_status w.pair s w.index ∙ bad_status s e length_ok stands fails)
+      (beside_facts w.pair s w.index ∙ bad_facts s e length_ok stands fails)
       (unread (other (other w.index))) in
-      kept (not-whole s (new w) w.payload not_new) beside.1 beside.2
+      kept (not_whole s (new w) w.payload not_new) beside.1 beside.2
+
+  -- ---- a header that passes every check
+
+  module _ (passes : check s (header s) e ≡ Ok tt) where
+    status_is : status (slot_at (other (other w.index)) p) ≡ by_payload (passes_payload s (header s)) (header_info (header s))
+    status_is = beside_status w.pair s w.index ∙ passed_status s e length_ok (passed_is s e passes).magic_is passes
+
+    facts_are : header_facts (slot_at (other (other w.index)) p).bytes (slot_at (other (other w.index)) p).expect ≡ facts_of (le32 s 8) (header s)
+    facts_are = beside_facts w.pair s w.index ∙ passed_facts s e length_ok (passed_is s e passes).magic_is passes
+
+    -- The older one.
+    on_older : stands_whole s (new w) w.payload ≡ false → (header_info (header s)).generation < i.generation → Answer
+    on_older torn older = go (passes_payload s (header s)) refl
+      where
+        go : (ok : Bool) → passes_payload s (header s) ≡ ok → Answer
+        go true is =
+            kept torn Explained.nothing
+            (beside_valid p (other w.index) i valid qualifies takes (header_info (header s))
+            (status_is ∙ ap (λ (b : Bool). by_payload b (header_info (header s))) is)
+            older)
+        go false is =
+            kept torn Explained.older
+            (beside_old p (other w.index) i valid qualifies takes (le32 s 8) _
+            (status_is ∙ ap (λ (b : Bool). by_payload b (header_info (header s))) is)
+            facts_are
+            older)
 
   -- ---- the old header
 
-  on-old : (take 128 s ≡ take 128 (new w) → ⊥) → take 128 s ≡ take 128 (old w) → Answer
-  on-old not_new same-header = go (written_over w sound correct)
+  on_old : (take 128 s ≡ take 128 (new w) → ⊥) → take 128 s ≡ take 128 (old w) → Answer
+  on_old not_new same_header = go (written_over w sound correct)
     where
-      torn : standsWhole s (new w) w.payload ≡ false
-      torn = not-whole s (new w) w.payload not_new
+      torn : stands_whole s (new w) w.payload ≡ false
+      torn = not_whole s (new w) w.payload not_new
 
-      still-blank : allZero (take 128 (old w)) ≡ true → validate s e ≡ SlotStatus.Blank
-      still-blank zeros = unfold validate in simp (length-ok, ap allZero same-header ∙ zeros)
-
-      by-payload : (j : SlotInfo) (crc : ℕ) → parseHeader s e ≡ Parsed.Passed j crc → j.generation < i.generation
-          → (ok : Bool) → payloadOk s j crc ≡ ok → Answer
-      by-payload j crc parse older true is =
-          kept torn Explained.nothing
-          (beside-valid p (other w.index) i valid qualifies takes j
-          (beside-status w.pair s w.index
-          ∙ passed-status s e length-ok (parse-passed s e j crc parse).magic-is j crc parse
-          ∙ ap (λ (b : Bool). cond b (SlotStatus.Valid j) SlotStatus.BadPayloadCrc) is)
-          older)
-      by-payload j crc parse older false is =
-          kept torn Explained.older-damaged
-          (beside-old p (other w.index) i valid qualifies takes (le32 s 8) _
-          (beside-status w.pair s w.index
-          ∙ passed-status s e length-ok (parse-passed s e j crc parse).magic-is j crc parse
-          ∙ ap (λ (b : Bool). cond b (SlotStatus.Valid j) SlotStatus.BadPayloadCrc) is)
-          (beside-facts w.pair s w.index ∙ passed-facts s e length-ok (parse-passed s e j crc parse).magic-is j crc parse)
-          older)
+      still_blank : is_blank (old w) ≡ true → validate s e ≡ SlotStatus.Blank
+      still_blank zeros = unfold validate in simp (length_ok, ap (list_all (λ b. b == 0)) same_header ∙ zeros)
 
       go : Older w.pair w.index i → Answer
-      go (Older.blank is-a first is) =
+      go (Older.blank is_a first is) =
           kept torn Explained.nothing
-          (beside-blank p (other w.index) i valid qualifies takes is-a first
-          (beside-status w.pair s w.index ∙ still-blank (blank-is (old w) e is).zeros))
+          (beside_blank p (other w.index) i valid qualifies takes is_a first
+          (beside_status w.pair s w.index ∙ still_blank (blank_is (old w) e is).zeros))
       go (Older.valid j is older) =
-          let known = valid-is (old w) e j is in
-          let header-long : le16 (old w) 12 ≡ 128 = known.passed.length-is (sound.slots w.index).format in
-          let sizes : length (old w) ≡ length s = old-size w sound correct ∙ sym s-size in
-          let parse : parseHeader s e ≡ Parsed.Passed j known.crc =
-          sym (parse-same 128 (old w) s (sym same-header) (lit≤ tt) (le_of_eq header-long) sizes e) ∙ known.parse-is in
-          by-payload j known.crc parse older (payloadOk s j known.crc) refl
+          let known = valid_is (old w) e j is in
+          let header_long : le16 (old w) 12 ≡ 128 = (passed_is (old w) e known.check_is).length_is (sound.slots w.index).format in
+          let same : SameHeader 128 (old w) s =
+          record { same = sym same_header; least = lit≤ tt; whole = le_of_eq header_long; sizes = old_size w sound correct ∙ sym s_size } in
+          let info_is : j ≡ header_info (header s) = known.info_is ∙ ap header_info (header_same (old w) s (sym same_header)) in
+          on_older (sym (check_same 128 (old w) s same e) ∙ known.check_is) torn (subst (λ (k : SlotInfo). k.generation < i.generation) info_is older)
 
   -- ---- the new header
 
+  abbrev stored : SlotHeader
+  stored = stored_header (header_crc w.fields w.payload) w.fields (length w.payload) (crc32c w.payload)
+
   abbrev fresh : SlotInfo
-  fresh = infoOf w.fields w.payload
+  fresh = info_of w.fields w.payload
 
-  module _ (same-header : take 128 s ≡ take 128 (new w)) where
-    parts : writtenHeader w.fields w.payload ++ drop 128 s ≡ s
-    parts = ap (λ (l : List ℕ). l ++ drop 128 s) (sym (same-header ∙ new-header w sound correct)) ∙ take-append-drop 128 s
+  module _ (same_header : take 128 s ≡ take 128 (new w)) where
+    parts : written_header w.fields w.payload ++ drop 128 s ≡ s
+    parts = ap (λ (l : List ℕ). l ++ drop 128 s) (sym (same_header ∙ new_header w sound correct)) ∙ take-append-drop 128 s
 
-    room : 128 + length w.payload ≤ length s
-    room = omega (arith, correct.fits, s-size)
+    within : 128 + length w.payload ≤ length s
+    within = omega (arith, correct.fits, s_size)
 
-    parse-new : parseHeader s e ≡ Parsed.Passed fresh (crc32c w.payload)
-    parse-new =
-        ap₂ parseHeader (sym parts) (sym (expect-is w sound correct))
-        ∙ parse-written (fields-proper w sound correct) w.payload (drop 128 s) (payload-small w sound correct) (rw parts room)
+    header_new : header s ≡ stored
+    header_new = ap header (sym parts) ∙ header-is (fields_proper w sound correct) w.payload (drop 128 s) (payload_small w sound correct)
 
-    passed : Passed s e fresh (crc32c w.payload)
-    passed = parse-passed s e fresh (crc32c w.payload) parse-new
+    check_new : check s (header s) e ≡ Ok tt
+    check_new =
+        ap (λ (h : SlotHeader). check s h e) header_new
+        ∙ ap₂ (λ (t : List ℕ) (x : Expect). check t stored x) (sym parts) (sym (expect_is w sound correct))
+        ∙ check_written (fields_proper w sound correct) w.payload (drop 128 s) (payload_small w sound correct) (rw parts within)
 
-    status-new : validate s e ≡ cond (payloadOk s fresh (crc32c w.payload)) (SlotStatus.Valid fresh) SlotStatus.BadPayloadCrc
-    status-new = passed-status s e length-ok passed.magic-is fresh (crc32c w.payload) parse-new
+    status_new : status (slot_at (other (other w.index)) p) ≡ by_payload (passes_payload s stored) fresh
+    status_new = status_is check_new ∙ ap (λ (h : SlotHeader). by_payload (passes_payload s h) (header_info h)) header_new
 
-    payload-is : payloadOf fresh s ≡ payloadIn s w.payload
-    unfolding payloadOf payloadStart payloadLength
-    payload-is = simp (le-ltb _ _ room)
+    facts_new : header_facts (slot_at (other (other w.index)) p).bytes (slot_at (other (other w.index)) p).expect ≡ facts_of (le32 s 8) stored
+    facts_new = facts_are check_new ∙ ap (facts_of (le32 s 8)) header_new
 
-    new-long : 128 ≤ length (new w)
-    new-long = rw (new-size w sound correct ∙ sym s-size) long
+    payload_is : payload_of fresh s ≡ payload_in s w.payload
+    unfolding payload_of
+    payload_is = simp (le-ltb _ _ within)
 
-    whole-new : payloadIn s w.payload ≡ w.payload → standsWhole s (new w) w.payload ≡ true
-    unfolding standsWhole
-    whole-new same-payload =
-        same-is (take (128 + length w.payload) s) (take (128 + length w.payload) (new w))
+    new_long : 128 ≤ length (new w)
+    new_long = rw (new_size w sound correct ∙ sym s_size) long
+
+    whole_new : payload_in s w.payload ≡ w.payload → stands_whole s (new w) w.payload ≡ true
+    unfolding stands_whole
+    whole_new same_payload =
+        (bytes_decides (take (128 + length w.payload) s) (take (128 + length w.payload) (new w))).1
         (take-add 128 (length w.payload) s
-        ∙ ap₂ ◌++◌ same-header (same-payload ∙ sym (new-payload w sound correct))
+        ∙ ap₂ ◌++◌ same_header (same_payload ∙ sym (new_payload w sound correct))
         ∙ sym (take-add 128 (length w.payload) (new w)))
 
-    torn-new : (payloadIn s w.payload ≡ w.payload → ⊥) → standsWhole s (new w) w.payload ≡ false
-    unfolding standsWhole
-    torn-new other-payload =
+    torn_new : (payload_in s w.payload ≡ w.payload → ⊥) → stands_whole s (new w) w.payload ≡ false
+    unfolding stands_whole
+    torn_new other_payload =
         not_same (take (128 + length w.payload) s) (take (128 + length w.payload) (new w))
         (λ is.
-        other-payload
-        (payload-front s w.payload long ∙ ap (drop 128) is ∙ sym (payload-front (new w) w.payload new-long) ∙ new-payload w sound correct))
+        other_payload
+        (payload_front s w.payload long ∙ ap (drop 128) is ∙ sym (payload_front (new w) w.payload new_long) ∙ new_payload w sound correct))
 
     -- The new record, which is the winner.
-    on-whole : payloadOk s fresh (crc32c w.payload) ≡ true → payloadIn s w.payload ≡ w.payload → Answer
-    on-whole ok same-payload =
-        let valid-new : status (slot_at w.index p) ≡ SlotStatus.Valid fresh =
-        put-status w.pair s w.index ∙ status-new ∙ ap (λ (b : Bool). cond b (SlotStatus.Valid fresh) SlotStatus.BadPayloadCrc) ok in
-        let record-new : payloadOf fresh (slot_at w.index p).bytes ≡ w.payload =
-        ap (payloadOf fresh) (put-bytes w.pair s w.index) ∙ payload-is ∙ same-payload in
-        let takes-new : accepts p.decoder (payloadOf fresh (slot_at w.index p).bytes) ≡ true =
-        ap₂ (λ d (r : List ℕ). accepts d r) (put-decoder w.pair s w.index) record-new ∙ correct.accepted in
+    on_whole : passes_payload s stored ≡ true → payload_in s w.payload ≡ w.payload → Answer
+    on_whole ok same_payload =
+        let valid_new : status (slot_at w.index p) ≡ SlotStatus.Valid fresh =
+        ap (λ (index : SlotIndex). status (slot_at index p)) (sym (other_other w.index)) ∙ status_new ∙ ap (λ (b : Bool). by_payload b fresh) ok in
+        let record_new : payload_of fresh (slot_at w.index p).bytes ≡ w.payload =
+        ap (payload_of fresh) (put_bytes w.pair s w.index) ∙ payload_is ∙ same_payload in
+        let takes_new : accepts p.decoder (payload_of fresh (slot_at w.index p).bytes) ≡ true =
+        ap₂ (λ d (r : List ℕ). accepts d r) (put_decoder w.pair s w.index) record_new ∙ correct.accepted in
         let older : i.generation < fresh.generation = omega (arith, correct.generation) in
         record {
           winner = w.index;
@@ -243,41 +273,40 @@ module _ (w : Write) (sound : SoundPair w.pair) (correct : CorrectWrite w) (s : 
           explained = Explained.nothing;
           stands =
               subst (λ (r : List ℕ). Stands p qualifies w.index SlotVerdict.Nothing r)
-              (record-new ∙ sym (ap (λ (b : Bool). cond b w.payload (lastRecord w.pair)) (whole-new same-payload)))
-              (beside-valid p w.index fresh valid-new qualifies takes-new i valid older);
-          flight = λ is. let never : ◌≡◌ {A = ℕ} 0 1 = cc in absurd (omega arith);
+              (record_new ∙ sym (ap (λ (b : Bool). cond b w.payload (last_record w.pair)) (whole_new same_payload)))
+              (beside_valid p w.index fresh valid_new qualifies takes_new i valid older);
+          flight = λ is. absurd cc;
         }
 
     -- The write in flight.
-    on-torn : payloadOk s fresh (crc32c w.payload) ≡ false → (payloadIn s w.payload ≡ w.payload → ⊥) → Answer
-    on-torn bad other-payload =
-        kept (torn-new other-payload) Explained.in-flight
-        (beside-new p (other w.index) i valid qualifies takes (le32 s 8) _
-        (beside-status w.pair s w.index ∙ status-new ∙ ap (λ (b : Bool). cond b (SlotStatus.Valid fresh) SlotStatus.BadPayloadCrc) bad)
-        (beside-facts w.pair s w.index ∙ passed-facts s e length-ok passed.magic-is fresh (crc32c w.payload) parse-new)
+    on_torn : passes_payload s stored ≡ false → (payload_in s w.payload ≡ w.payload → ⊥) → Answer
+    on_torn bad other_payload =
+        kept (torn_new other_payload) Explained.torn
+        (beside_new p (other w.index) i valid qualifies takes (le32 s 8) _ (status_new ∙ ap (λ (b : Bool). by_payload b fresh) bad) facts_new
         correct.generation
         correct.prev
-        (ap (λ (index : SlotIndex). qualifies index (MetaSeq.Number w.fields.meta_seq)) (other-other w.index) ∙ qualified))
+        (ap (λ (index : SlotIndex). qualifies index (Some w.fields.meta_seq)) (other_other w.index) ∙ qualified))
 
-    on-new : Answer
-    on-new = by-checksum (payloadOk s fresh (crc32c w.payload)) refl
+    on_new : Answer
+    on_new = by_checksum (passes_payload s stored) refl
       where
-        checksum-is : payloadOk s fresh (crc32c w.payload) ≡ eqb (crc32c (payloadIn s w.payload)) (crc32c w.payload)
-        checksum-is = unfold payloadOk in ap (λ (r : List ℕ). eqb (crc32c r) (crc32c w.payload)) payload-is
+        checksum_is : passes_payload s stored ≡ (crc32c (payload_in s w.payload) == crc32c w.payload)
+        checksum_is = unfold passes_payload in ap (λ (r : List ℕ). crc32c r == crc32c w.payload) payload_is
 
-        by_bytes : payloadOk s fresh (crc32c w.payload) ≡ true → (equal : Bool) → same (payloadIn s w.payload) w.payload ≡ equal → Answer
-        by_bytes ok true is = on-whole ok (same_true (payloadIn s w.payload) w.payload is)
+        by_bytes : passes_payload s stored ≡ true → (equal : Bool) → pointwise nat_eq (payload_in s w.payload) w.payload ≡ equal → Answer
+        by_bytes ok true is = on_whole ok ((bytes_decides (payload_in s w.payload) w.payload).0 is)
         by_bytes ok false is =
             absurd
             (none
-            (Accident.payload same-header (differ (payloadIn s w.payload) w.payload is) (eqb-true _ _ (sym checksum-is ∙ ok) ∙ passed.crc-is)))
+            (Accident.payload same_header (differ (payload_in s w.payload) w.payload is)
+            (eqb-true _ _ (sym checksum_is ∙ ok) ∙ sym (ap (λ (h : SlotHeader). h.payload_crc32c) header_new))))
 
-        by-checksum : (ok : Bool) → payloadOk s fresh (crc32c w.payload) ≡ ok → Answer
-        by-checksum true is = by_bytes is (same (payloadIn s w.payload) w.payload) refl
-        by-checksum false is =
-            on-torn is (λ same-payload. false-true {A = ⊥} is (checksum-is ∙ eq-eqb _ _ (ap crc32c same-payload)))
+        by_checksum : (ok : Bool) → passes_payload s stored ≡ ok → Answer
+        by_checksum true is = by_bytes is (pointwise nat_eq (payload_in s w.payload) w.payload) refl
+        by_checksum false is =
+            on_torn is (λ same_payload. false_true {A = ⊥} is (checksum_is ∙ eq-eqb _ _ (ap crc32c same_payload)))
 
-  pub pair-after : Header s (old w) (new w) → Answer
-  pair-after (Header.is-new same-header) = on-new same-header
-  pair-after (Header.is-old not_new same-header) = on-old not_new same-header
-  pair-after (Header.fails not_new stands fails) = on-failing not_new stands fails
+  pub pair_after : Header s (old w) (new w) → Answer
+  pair_after (Header.is_new same_header) = on_new same_header
+  pair_after (Header.is_old not_new same_header) = on_old not_new same_header
+  pair_after (Header.fails not_new stands fails) = on_failing not_new stands fails

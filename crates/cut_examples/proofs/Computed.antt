@@ -3,7 +3,7 @@
 use Rattle.std.proofs.Common.{◌≡◌, refl, ◌∙◌, Bool, true, false, cond, List, [], ◌∷◌, ℕ, replicate}
 use Rattle.codec.specs.Bytes.{le, bytes, flag}
 use Rattle.codec.specs.Crc32c.{crc32c, finalRemainder, remainder, digest, reversed}
-use Rattle.slot.specs.Read.{lengthOk, headerSum, integrity, numberOk, shape, place, check, parseHeader, payloadStart, payloadLength, payload as payloadOf, payloadOk}
+use Rattle.slot.specs.Read.{lengthOk, headerSum, integrity, numberOk, shape, place, check, parseHeader, payloadStart, payloadLength, payload as payload_of, payloadOk}
 use Rattle.slot.specs.Write.{frontBytes, identityBytes, historyBytes, headerBytes, encodedBytes}
 use Rattle.slot.specs.declared.slot.SlotIndex.{SlotIndex}
 use Rattle.slot.specs.declared.slot.SlotInfo.{SlotInfo}
@@ -17,237 +17,237 @@ use Rattle.verdict.specs.Judge.{firstVerdicts, firstTally, cleanMark, storeRules
 use Rattle.judge_frames.specs.Frames.{pairFrom, partInRange, pairInRange, refusal, judged, judgedBytes, framesOf}
 use Rattle.judge.specs.declared.SlotRead.{SlotRead}
 use Rattle.verdict.specs.declared.verdict.Judged.{Judged}
-use Rattle.page_write.specs.Write.{headerBytes as pageHeaderBytes}
+use Rattle.page_write.specs.Write.{headerBytes as page_header_bytes}
 use Rattle.volume_base.specs.Base.{baseBytes}
 use Rattle.volume_tail.specs.Tail.{tail_bytes}
 use Rattle.volume.specs.Volume.{volumeBytes}
-use Rattle.cut.specs.Store.{Every, Volume, Page, accepts, cleanMark as recordMark, filled, slotRead}
-use Rattle.cut.specs.Cut.{cut, left, withBytes, withSlot, standsWhole}
-use Rattle.cut.proofs.StatementLaws.{page-handed}
-use Rattle.cut_store.specs.Stores.{volumeRecord, pageRecord, volumeFields, volumePair, firstPage, secondFields, secondPage, laterPage}
-use Rattle.cut_store.specs.Writes.{pageWrite, volumeWrite, secondWrite, laterWrite}
-use Rattle.cut_store.proofs.CutExamples.{summedSlot, summed-is, none-refused, volume-sum, second-sum, volume-handed, oldPage, newPage, blankBytes, markedBytes, nextPage, newerSlot, laterSlot, old-page, new-page, new-volume, new-second, newer-slot, later-slot, page-accepted, volume-accepted}
-use Rattle.cut_examples.specs.Computed.{Computed, blankRead, badMagic, tornHeader, tornPayload, validRead}
-use Rattle.cut_examples.specs.Cuts.{oldRecords, newPageRecords, olderRead, tornPage, newRead, PageCuts, tornVolume, markedRead, VolumeCuts, damagedVolume, MagicCuts, OtherCuts}
-use Rattle.cut_examples.proofs.SlotsRead.{PairRecord, more, none, readOnce, read-once, filledRow, pair-record, computed-row}
+use Rattle.cut.specs.Store.{Every, Volume, Page, accepts, clean_mark, filled, slot_read}
+use Rattle.cut.specs.Cut.{cut, left, with_bytes, with_slot, stands_whole}
+use Rattle.cut.proofs.StatementLaws.{page_handed}
+use Rattle.cut_examples.specs.Stores.{volume_record, page_record, volume_fields, volume_pair, first_page, second_fields, second_page, later_page}
+use Rattle.cut_examples.specs.Writes.{page_write, volume_write, second_write, later_write}
+use Rattle.cut_examples.proofs.Writes.{summed_slot, summed_is, none_refused, volume_sum, second_sum, volume_handed, old_page, new_page, blank_bytes, marked_bytes, next_page, newer_slot, later_slot, old_page_is, new_page_is, marked_bytes_is, next_page_is, newer_slot_is, later_slot_is, page_accepted, volume_accepted}
+use Rattle.cut_examples.specs.Computed.{Computed, blank_read, bad_magic, torn_header, torn_payload, valid_read}
+use Rattle.cut_examples.specs.Cuts.{old_records, new_page_records, older_read, torn_page, new_read, PageCuts, torn_volume, marked_read, VolumeCuts, damaged_volume, MagicCuts, OtherCuts}
+use Rattle.cut_examples.proofs.SlotsRead.{PairRecord, more, none, read_once, read_once_is, filled_row, pair_record, computed_row}
 
 -- ---- the slots that are not written, as they are read
 
-abbrev volumeRead : SlotRead
-volumeRead = validRead 1 1 0x1d15_7c74 0 64
+abbrev volume_read : SlotRead
+volume_read = valid_read 1 1 0x1d15_7c74 0 64
 
-abbrev newerRead : SlotRead
-newerRead = validRead 2 4 0xe83c_e718 0x588e_9174 24
+abbrev newer_read : SlotRead
+newer_read = valid_read 2 4 0xe83c_e718 0x588e_9174 24
 
-abbrev secondRead : SlotRead
-secondRead = validRead 1 3 0x2c8c_2a3c 0 24
+abbrev second_read : SlotRead
+second_read = valid_read 1 3 0x2c8c_2a3c 0 24
 
 -- With their checksums as numbers.
 
-abbrev volumeSlot : List ℕ
-volumeSlot = summedSlot 0x1d15_7c74 0x69eb_46ec volumeFields (volumeRecord false)
+abbrev volume_slot : List ℕ
+volume_slot = summed_slot 0x1d15_7c74 0x69eb_46ec volume_fields (volume_record false)
 
-abbrev secondSlot : List ℕ
-secondSlot = summedSlot 0x2c8c_2a3c 0x3eb4_2e60 secondFields (pageRecord 1 0)
+abbrev second_slot : List ℕ
+second_slot = summed_slot 0x2c8c_2a3c 0x3eb4_2e60 second_fields (page_record 1 0)
 
-payload-sums : (crc32c (volumeRecord false) ≡ 0x69eb_46ec) × (crc32c (pageRecord 1 0) ≡ 0x3eb4_2e60)
-unfolding volumeBytes baseBytes tail_bytes pageHeaderBytes bytes crc32c finalRemainder remainder digest reversed
-payload-sums = (refl, refl)
+payload_sums : (crc32c (volume_record false) ≡ 0x69eb_46ec) × (crc32c (page_record 1 0) ≡ 0x3eb4_2e60)
+unfolding volumeBytes baseBytes tail_bytes page_header_bytes bytes crc32c finalRemainder remainder digest reversed
+payload_sums = (refl, refl)
 
-volume-slot : encodedBytes volumeFields (volumeRecord false) (replicate 512 0) ≡ volumeSlot
-volume-slot = summed-is 0 SlotIndex.A 1 0 1 (volumeRecord false) 0x1d15_7c74 0x69eb_46ec none-refused.0 volume-sum payload-sums.0
+volume_slot_is : encodedBytes volume_fields (volume_record false) (replicate 512 0) ≡ volume_slot
+volume_slot_is = summed_is 0 SlotIndex.A 1 0 1 (volume_record false) 0x1d15_7c74 0x69eb_46ec none_refused.0 volume_sum payload_sums.0
 
-second-slot : encodedBytes secondFields (pageRecord 1 0) (replicate 512 0) ≡ secondSlot
-second-slot = summed-is 2 SlotIndex.A 1 0 3 (pageRecord 1 0) 0x2c8c_2a3c 0x3eb4_2e60 none-refused.3 second-sum payload-sums.1
+second_slot_is : encodedBytes second_fields (page_record 1 0) (replicate 512 0) ≡ second_slot
+second_slot_is = summed_is 2 SlotIndex.A 1 0 3 (page_record 1 0) 0x2c8c_2a3c 0x3eb4_2e60 none_refused.3 second_sum payload_sums.1
 
 -- Each as it is read.
-slots_read : (readOnce volumeSlot volumePair.a.expect ≡ volumeRead) × (readOnce blankBytes volumePair.b.expect ≡ blankRead)
-    × (readOnce oldPage firstPage.a.expect ≡ olderRead) × (readOnce newerSlot firstPage.b.expect ≡ newerRead)
-    × (readOnce secondSlot secondPage.a.expect ≡ secondRead) × (readOnce blankBytes secondPage.b.expect ≡ blankRead)
-    × (readOnce newPage laterPage.a.expect ≡ newRead)
-unfolding lengthOk parseHeader check integrity shape place numberOk payloadOk payloadOf payloadStart payloadLength headerSum headerBytes frontBytes identityBytes historyBytes volumeBytes baseBytes tail_bytes pageHeaderBytes bytes le crc32c finalRemainder remainder digest reversed
+slots_read : (read_once volume_slot volume_pair.a.expect ≡ volume_read) × (read_once blank_bytes volume_pair.b.expect ≡ blank_read)
+    × (read_once old_page first_page.a.expect ≡ older_read) × (read_once newer_slot first_page.b.expect ≡ newer_read)
+    × (read_once second_slot second_page.a.expect ≡ second_read) × (read_once blank_bytes second_page.b.expect ≡ blank_read)
+    × (read_once new_page later_page.a.expect ≡ new_read)
+unfolding lengthOk parseHeader check integrity shape place numberOk payloadOk payload_of payloadStart payloadLength headerSum headerBytes frontBytes identityBytes historyBytes volumeBytes baseBytes tail_bytes page_header_bytes bytes le crc32c finalRemainder remainder digest reversed
 slots_read = (refl, refl, refl, refl, refl, refl, refl)
 
 -- After no byte the slot of the page is the old one, and after the last the new one.
-page-ends : (readOnce (cut 0 newPage oldPage) firstPage.a.expect ≡ olderRead) × (readOnce (cut 512 newPage oldPage) firstPage.a.expect ≡ newRead)
-unfolding cut headerBytes frontBytes identityBytes historyBytes pageHeaderBytes bytes
-page-ends = (slots_read.2, slots_read.6)
+page_ends : (read_once (cut 0 new_page old_page) first_page.a.expect ≡ older_read) × (read_once (cut 512 new_page old_page) first_page.a.expect ≡ new_read)
+unfolding cut headerBytes frontBytes identityBytes historyBytes page_header_bytes bytes
+page_ends = (slots_read.2, slots_read.6)
 
 -- The pairs of them, with their records.
-volume-pair : PairRecord volumePair (record { a = volumeRead; b = blankRead }) (volumeRecord false)
-unfolding decide payloadOf payloadStart payloadLength headerBytes frontBytes identityBytes historyBytes volumeBytes baseBytes tail_bytes bytes
-volume-pair =
-    rw volume-slot
-    (pair-record volumeSlot blankBytes volumePair.a.expect volumePair.b.expect Volume (record { a = volumeRead; b = blankRead })
-    (volumeRecord false) slots_read.0 slots_read.1 refl refl volume-accepted.0)
+volume_pair_read : PairRecord volume_pair (record { a = volume_read; b = blank_read }) (volume_record false)
+unfolding decide payload_of payloadStart payloadLength headerBytes frontBytes identityBytes historyBytes volumeBytes baseBytes tail_bytes bytes
+volume_pair_read =
+    rw volume_slot_is
+    (pair_record volume_slot blank_bytes volume_pair.a.expect volume_pair.b.expect Volume (record { a = volume_read; b = blank_read })
+    (volume_record false) slots_read.0 slots_read.1 refl refl volume_accepted.0)
 
-first-page : PairRecord firstPage (record { a = olderRead; b = newerRead }) (pageRecord 0 2)
-unfolding decide payloadOf payloadStart payloadLength headerBytes frontBytes identityBytes historyBytes pageHeaderBytes bytes
-first-page =
-    rw (old-page, newer-slot)
-    (pair-record oldPage newerSlot firstPage.a.expect firstPage.b.expect (Page 0 41) (record { a = olderRead; b = newerRead })
-    (pageRecord 0 2) slots_read.2 slots_read.3 refl refl page-accepted.1)
+first_page_read : PairRecord first_page (record { a = older_read; b = newer_read }) (page_record 0 2)
+unfolding decide payload_of payloadStart payloadLength headerBytes frontBytes identityBytes historyBytes page_header_bytes bytes
+first_page_read =
+    rw (old_page_is, newer_slot_is)
+    (pair_record old_page newer_slot first_page.a.expect first_page.b.expect (Page 0 41) (record { a = older_read; b = newer_read })
+    (page_record 0 2) slots_read.2 slots_read.3 refl refl page_accepted.1)
 
-second-page : PairRecord secondPage (record { a = secondRead; b = blankRead }) (pageRecord 1 0)
-unfolding decide payloadOf payloadStart payloadLength headerBytes frontBytes identityBytes historyBytes pageHeaderBytes bytes
-second-page =
-    rw second-slot
-    (pair-record secondSlot blankBytes secondPage.a.expect secondPage.b.expect (Page 1 41) (record { a = secondRead; b = blankRead })
-    (pageRecord 1 0) slots_read.4 slots_read.5 refl refl page-accepted.4)
+second_page_read : PairRecord second_page (record { a = second_read; b = blank_read }) (page_record 1 0)
+unfolding decide payload_of payloadStart payloadLength headerBytes frontBytes identityBytes historyBytes page_header_bytes bytes
+second_page_read =
+    rw second_slot_is
+    (pair_record second_slot blank_bytes second_page.a.expect second_page.b.expect (Page 1 41) (record { a = second_read; b = blank_read })
+    (page_record 1 0) slots_read.4 slots_read.5 refl refl page_accepted.4)
 
 -- ---- the written pairs
 
 -- The page's slot A after k bytes is read as x.
-module _ (k : ℕ) (x : SlotRead) (read : readOnce (cut k newPage oldPage) firstPage.a.expect ≡ x)
-    {index : SlotIndex} {i : SlotInfo} (won : winnerInfo (decide x.status newerRead.status) ≡ WinnerInfo.Won index i)
-    {r : List ℕ} (back : payloadOf i (byIndex index (cut k newPage oldPage) newerSlot) ≡ r)
+module _ (k : ℕ) (x : SlotRead) (read : read_once (cut k new_page old_page) first_page.a.expect ≡ x)
+    {index : SlotIndex} {i : SlotInfo} (won : winnerInfo (decide x.status newer_read.status) ≡ WinnerInfo.Won index i)
+    {r : List ℕ} (back : payload_of i (byIndex index (cut k new_page old_page) newer_slot) ≡ r)
     (accepted : accepts (Page 0 41) r ≡ true) where
-  page-read : slotRead (withBytes (left (pageWrite k)) firstPage.a) ≡ x
-  page-read = rw (new-page, old-page) (read-once (cut k newPage oldPage) firstPage.a.expect ∙ read)
+  page_slot_read : slot_read (with_bytes (left (page_write k)) first_page.a) ≡ x
+  page_slot_read = rw (new_page_is, old_page_is) (read_once_is (cut k new_page old_page) first_page.a.expect ∙ read)
 
-  page-pair : PairRecord (withSlot SlotIndex.A (left (pageWrite k)) firstPage) (record { a = x; b = newerRead }) r
-  page-pair =
-      rw (new-page, old-page, newer-slot)
-      (pair-record (cut k newPage oldPage) newerSlot firstPage.a.expect firstPage.b.expect (Page 0 41) (record { a = x; b = newerRead }) r
+  page_pair_read : PairRecord (with_slot SlotIndex.A (left (page_write k)) first_page) (record { a = x; b = newer_read }) r
+  page_pair_read =
+      rw (new_page_is, old_page_is, newer_slot_is)
+      (pair_record (cut k new_page old_page) newer_slot first_page.a.expect first_page.b.expect (Page 0 41) (record { a = x; b = newer_read }) r
       read slots_read.3 won back accepted)
 
-  abbrev pageRow : List ℕ
-  pageRow =
+  abbrev page_row : List ℕ
+  page_row =
       framesOf
-      (filledRow
-      (record { a = volumeRead; b = blankRead } ∷ record { a = x; b = newerRead } ∷ record { a = secondRead; b = blankRead } ∷ []))
+      (filled_row
+      (record { a = volume_read; b = blank_read } ∷ record { a = x; b = newer_read } ∷ record { a = second_read; b = blank_read } ∷ []))
 
-  page-at : {heal : Heal} {verdict : List ℕ}
-      → judged pageRow 0 12 ≡ Judged.Done (record { heal = heal; writable = true; clean = false; refused = false })
-      → judgedBytes pageRow 0 (replicate 12 0) ≡ verdict
-      → Computed (pageWrite k) x heal false verdict (volumeRecord false ∷ r ∷ pageRecord 1 0 ∷ [])
-  page-at =
-      computed-row (pageWrite k) {mark = false} page-read (more volume-pair (more page-pair (more second-page none)))
-      (page-handed (pageWrite k) volumePair [] refl)
+  page_at : {heal : Heal} {verdict : List ℕ}
+      → judged page_row 0 12 ≡ Judged.Done (record { heal = heal; writable = true; clean = false; refused = false })
+      → judgedBytes page_row 0 (replicate 12 0) ≡ verdict
+      → Computed (page_write k) x heal false verdict (volume_record false ∷ r ∷ page_record 1 0 ∷ [])
+  page_at =
+      computed_row (page_write k) {mark = false} page_slot_read (more volume_pair_read (more page_pair_read (more second_page_read none)))
+      (page_handed (page_write k) volume_pair [] refl)
 
 -- The volume record's slot B after k bytes is read as x, and the judge is handed the mark.
-module _ (k : ℕ) (x : SlotRead) (read : readOnce (cut k markedBytes blankBytes) volumePair.b.expect ≡ x)
-    {index : SlotIndex} {i : SlotInfo} (won : winnerInfo (decide volumeRead.status x.status) ≡ WinnerInfo.Won index i)
-    {r : List ℕ} (back : payloadOf i (byIndex index volumeSlot (cut k markedBytes blankBytes)) ≡ r)
+module _ (k : ℕ) (x : SlotRead) (read : read_once (cut k marked_bytes blank_bytes) volume_pair.b.expect ≡ x)
+    {index : SlotIndex} {i : SlotInfo} (won : winnerInfo (decide volume_read.status x.status) ≡ WinnerInfo.Won index i)
+    {r : List ℕ} (back : payload_of i (byIndex index volume_slot (cut k marked_bytes blank_bytes)) ≡ r)
     (accepted : accepts Volume r ≡ true) (mark : Bool)
-    (mark-is : cond (standsWhole (cut k markedBytes blankBytes) markedBytes (volumeRecord true)) (recordMark (volumeRecord true)) false ≡ mark) where
-  marked-read : slotRead (withBytes (left (volumeWrite k)) volumePair.b) ≡ x
-  marked-read = rw new-volume (read-once (cut k markedBytes blankBytes) volumePair.b.expect ∙ read)
+    (mark_is : cond (stands_whole (cut k marked_bytes blank_bytes) marked_bytes (volume_record true)) (clean_mark (volume_record true)) false ≡ mark) where
+  marked_slot_read : slot_read (with_bytes (left (volume_write k)) volume_pair.b) ≡ x
+  marked_slot_read = rw marked_bytes_is (read_once_is (cut k marked_bytes blank_bytes) volume_pair.b.expect ∙ read)
 
-  marked-pair : PairRecord (withSlot SlotIndex.B (left (volumeWrite k)) volumePair) (record { a = volumeRead; b = x }) r
-  marked-pair =
-      rw (new-volume, volume-slot)
-      (pair-record volumeSlot (cut k markedBytes blankBytes) volumePair.a.expect volumePair.b.expect Volume (record { a = volumeRead; b = x }) r
+  marked_pair_read : PairRecord (with_slot SlotIndex.B (left (volume_write k)) volume_pair) (record { a = volume_read; b = x }) r
+  marked_pair_read =
+      rw (marked_bytes_is, volume_slot_is)
+      (pair_record volume_slot (cut k marked_bytes blank_bytes) volume_pair.a.expect volume_pair.b.expect Volume (record { a = volume_read; b = x }) r
       slots_read.0 read won back accepted)
 
-  abbrev volumeRow : List ℕ
-  volumeRow =
+  abbrev volume_row : List ℕ
+  volume_row =
       framesOf
-      (filledRow
-      (record { a = volumeRead; b = x } ∷ record { a = olderRead; b = newerRead } ∷ record { a = secondRead; b = blankRead } ∷ []))
+      (filled_row
+      (record { a = volume_read; b = x } ∷ record { a = older_read; b = newer_read } ∷ record { a = second_read; b = blank_read } ∷ []))
 
-  volume-at : {heal : Heal} {clean : Bool} {verdict : List ℕ}
-      → judged volumeRow (flag mark) 12 ≡ Judged.Done (record { heal = heal; writable = true; clean = clean; refused = false })
-      → judgedBytes volumeRow (flag mark) (replicate 12 0) ≡ verdict
-      → Computed (volumeWrite k) x heal clean verdict (r ∷ pageRecord 0 2 ∷ pageRecord 1 0 ∷ [])
-  volume-at =
-      computed-row (volumeWrite k) {mark = mark} marked-read (more marked-pair (more first-page (more second-page none))) (volume-handed k ∙ mark-is)
+  volume_at : {heal : Heal} {clean : Bool} {verdict : List ℕ}
+      → judged volume_row (flag mark) 12 ≡ Judged.Done (record { heal = heal; writable = true; clean = clean; refused = false })
+      → judgedBytes volume_row (flag mark) (replicate 12 0) ≡ verdict
+      → Computed (volume_write k) x heal clean verdict (r ∷ page_record 0 2 ∷ page_record 1 0 ∷ [])
+  volume_at =
+      computed_row (volume_write k) {mark = mark} marked_slot_read (more marked_pair_read (more first_page_read (more second_page_read none))) (volume_handed k ∙ mark_is)
 
 -- The second page's slot B after 140 bytes.
-abbrev tornSecond : SlotRead
-tornSecond = tornPayload 2 5 0x24b0_a7e6 0x2c8c_2a3c
+abbrev torn_second : SlotRead
+torn_second = torn_payload 2 5 0x24b0_a7e6 0x2c8c_2a3c
 
-second-read : readOnce (cut 140 nextPage blankBytes) secondPage.b.expect ≡ tornSecond
-unfolding cut lengthOk parseHeader check integrity shape place numberOk payloadOk payloadOf payloadStart payloadLength headerSum headerBytes frontBytes identityBytes historyBytes pageHeaderBytes bytes le crc32c finalRemainder remainder digest reversed
-second-read = refl
+torn_second_read : read_once (cut 140 next_page blank_bytes) second_page.b.expect ≡ torn_second
+unfolding cut lengthOk parseHeader check integrity shape place numberOk payloadOk payload_of payloadStart payloadLength headerSum headerBytes frontBytes identityBytes historyBytes page_header_bytes bytes le crc32c finalRemainder remainder digest reversed
+torn_second_read = refl
 
-second-pair : PairRecord (withSlot SlotIndex.B (left (secondWrite 140)) secondPage) (record { a = secondRead; b = tornSecond }) (pageRecord 1 0)
-unfolding decide payloadOf payloadStart payloadLength headerBytes frontBytes identityBytes historyBytes pageHeaderBytes bytes
-second-pair =
-    rw (new-second, second-slot)
-    (pair-record secondSlot (cut 140 nextPage blankBytes) secondPage.a.expect secondPage.b.expect (Page 1 41)
-    (record { a = secondRead; b = tornSecond }) (pageRecord 1 0) slots_read.4 second-read refl refl page-accepted.4)
+torn_pair_read : PairRecord (with_slot SlotIndex.B (left (second_write 140)) second_page) (record { a = second_read; b = torn_second }) (page_record 1 0)
+unfolding decide payload_of payloadStart payloadLength headerBytes frontBytes identityBytes historyBytes page_header_bytes bytes
+torn_pair_read =
+    rw (next_page_is, second_slot_is)
+    (pair_record second_slot (cut 140 next_page blank_bytes) second_page.a.expect second_page.b.expect (Page 1 41)
+    (record { a = second_read; b = torn_second }) (page_record 1 0) slots_read.4 torn_second_read refl refl page_accepted.4)
 
 -- The first page's slot B after k bytes is read as x, and A of generation 3 is the winner.
-module _ (k : ℕ) (x : SlotRead) (read : readOnce (cut k laterSlot newerSlot) laterPage.b.expect ≡ x)
-    {i : SlotInfo} (won : winnerInfo (decide newRead.status x.status) ≡ WinnerInfo.Won SlotIndex.A i)
-    (back : payloadOf i newPage ≡ pageRecord 0 0x304) where
-  later-read : slotRead (withBytes (left (laterWrite k)) laterPage.b) ≡ x
-  later-read = rw (newer-slot, later-slot) (read-once (cut k laterSlot newerSlot) laterPage.b.expect ∙ read)
+module _ (k : ℕ) (x : SlotRead) (read : read_once (cut k later_slot newer_slot) later_page.b.expect ≡ x)
+    {i : SlotInfo} (won : winnerInfo (decide new_read.status x.status) ≡ WinnerInfo.Won SlotIndex.A i)
+    (back : payload_of i new_page ≡ page_record 0 0x304) where
+  later_slot_read : slot_read (with_bytes (left (later_write k)) later_page.b) ≡ x
+  later_slot_read = rw (newer_slot_is, later_slot_is) (read_once_is (cut k later_slot newer_slot) later_page.b.expect ∙ read)
 
-  later-pair : PairRecord (withSlot SlotIndex.B (left (laterWrite k)) laterPage) (record { a = newRead; b = x }) (pageRecord 0 0x304)
-  later-pair =
-      rw (new-page, newer-slot, later-slot)
-      (pair-record newPage (cut k laterSlot newerSlot) laterPage.a.expect laterPage.b.expect (Page 0 41) (record { a = newRead; b = x })
-      (pageRecord 0 0x304) slots_read.6 read won back page-accepted.2)
+  later_pair_read : PairRecord (with_slot SlotIndex.B (left (later_write k)) later_page) (record { a = new_read; b = x }) (page_record 0 0x304)
+  later_pair_read =
+      rw (new_page_is, newer_slot_is, later_slot_is)
+      (pair_record new_page (cut k later_slot newer_slot) later_page.a.expect later_page.b.expect (Page 0 41) (record { a = new_read; b = x })
+      (page_record 0 0x304) slots_read.6 read won back page_accepted.2)
 
-  abbrev laterRow : List ℕ
-  laterRow =
+  abbrev later_row : List ℕ
+  later_row =
       framesOf
-      (filledRow
-      (record { a = volumeRead; b = blankRead } ∷ record { a = newRead; b = x } ∷ record { a = secondRead; b = blankRead } ∷ []))
+      (filled_row
+      (record { a = volume_read; b = blank_read } ∷ record { a = new_read; b = x } ∷ record { a = second_read; b = blank_read } ∷ []))
 
-  later-at : {heal : Heal} {verdict : List ℕ}
-      → judged laterRow 0 12 ≡ Judged.Done (record { heal = heal; writable = true; clean = false; refused = false })
-      → judgedBytes laterRow 0 (replicate 12 0) ≡ verdict
-      → Computed (laterWrite k) x heal false verdict newPageRecords
-  later-at =
-      computed-row (laterWrite k) {mark = false} later-read (more volume-pair (more later-pair (more second-page none)))
-      (page-handed (laterWrite k) volumePair [] refl)
+  later_at : {heal : Heal} {verdict : List ℕ}
+      → judged later_row 0 12 ≡ Judged.Done (record { heal = heal; writable = true; clean = false; refused = false })
+      → judgedBytes later_row 0 (replicate 12 0) ≡ verdict
+      → Computed (later_write k) x heal false verdict new_page_records
+  later_at =
+      computed_row (later_write k) {mark = false} later_slot_read (more volume_pair_read (more later_pair_read (more second_page_read none)))
+      (page_handed (later_write k) volume_pair [] refl)
 
 -- ---- the cuts
 
-pub page-computed : PageCuts
-unfolding cut lengthOk parseHeader check integrity shape place numberOk payloadOk payloadOf payloadStart payloadLength headerSum headerBytes frontBytes identityBytes historyBytes pageHeaderBytes bytes le crc32c finalRemainder remainder digest reversed decide filled partBytes judged judgedBytes refusal judgeRow verdicts rowRules firstVerdicts firstTally writable storeRules cleanMark demoted pairHeal pairFrom partFrom partInRange pairInRange numbered badPayload badHeader blank oppositeSlot unsupported newer pairCase
-page-computed =
+pub page_computed : PageCuts
+unfolding cut lengthOk parseHeader check integrity shape place numberOk payloadOk payload_of payloadStart payloadLength headerSum headerBytes frontBytes identityBytes historyBytes page_header_bytes bytes le crc32c finalRemainder remainder digest reversed decide filled partBytes judged judgedBytes refusal judgeRow verdicts rowRules firstVerdicts firstTally writable storeRules cleanMark demoted pairHeal pairFrom partFrom partInRange pairInRange numbered badPayload badHeader blank oppositeSlot unsupported newer pairCase
+page_computed =
     record {
-      page-0 = page-at 0 olderRead page-ends.0 refl refl page-accepted.1 refl refl;
-      page-8 = page-at 8 olderRead refl refl refl page-accepted.1 refl refl;
-      page-11 = page-at 11 (tornHeader 0x581e_00d0) refl refl refl page-accepted.1 refl refl;
-      page-64 = page-at 64 (tornHeader 0xd61e_00d0) refl refl refl page-accepted.1 refl refl;
-      page-127 = page-at 127 tornPage refl refl refl page-accepted.1 refl refl;
-      page-128 = page-at 128 tornPage refl refl refl page-accepted.1 refl refl;
-      page-133 = page-at 133 tornPage refl refl refl page-accepted.1 refl refl;
-      page-134 = page-at 134 newRead refl refl refl page-accepted.2 refl refl;
-      page-512 = page-at 512 newRead page-ends.1 refl refl page-accepted.2 refl refl;
+      page_0 = page_at 0 older_read page_ends.0 refl refl page_accepted.1 refl refl;
+      page_8 = page_at 8 older_read refl refl refl page_accepted.1 refl refl;
+      page_11 = page_at 11 (torn_header 0x581e_00d0) refl refl refl page_accepted.1 refl refl;
+      page_64 = page_at 64 (torn_header 0xd61e_00d0) refl refl refl page_accepted.1 refl refl;
+      page_127 = page_at 127 torn_page refl refl refl page_accepted.1 refl refl;
+      page_128 = page_at 128 torn_page refl refl refl page_accepted.1 refl refl;
+      page_133 = page_at 133 torn_page refl refl refl page_accepted.1 refl refl;
+      page_134 = page_at 134 new_read refl refl refl page_accepted.2 refl refl;
+      page_512 = page_at 512 new_read page_ends.1 refl refl page_accepted.2 refl refl;
     }
 
-pub volume-computed : VolumeCuts
-unfolding cut lengthOk parseHeader check integrity shape place numberOk payloadOk payloadOf payloadStart payloadLength headerSum headerBytes frontBytes identityBytes historyBytes volumeBytes baseBytes tail_bytes bytes le crc32c finalRemainder remainder digest reversed decide filled partBytes judged judgedBytes refusal judgeRow verdicts rowRules firstVerdicts firstTally writable storeRules cleanMark demoted pairHeal pairFrom partFrom partInRange pairInRange numbered badPayload badHeader blank oppositeSlot unsupported newer pairCase standsWhole
-volume-computed =
+pub volume_computed : VolumeCuts
+unfolding cut lengthOk parseHeader check integrity shape place numberOk payloadOk payload_of payloadStart payloadLength headerSum headerBytes frontBytes identityBytes historyBytes volumeBytes baseBytes tail_bytes bytes le crc32c finalRemainder remainder digest reversed decide filled partBytes judged judgedBytes refusal judgeRow verdicts rowRules firstVerdicts firstTally writable storeRules cleanMark demoted pairHeal pairFrom partFrom partInRange pairInRange numbered badPayload badHeader blank oppositeSlot unsupported newer pairCase stands_whole
+volume_computed =
     record {
-      volume-0 = volume-at 0 blankRead refl refl refl volume-accepted.0 false refl refl refl;
-      volume-8 = volume-at 8 (tornHeader 0) refl refl refl volume-accepted.0 false refl refl refl;
-      volume-11 = volume-at 11 (tornHeader 0x000c_0bb0) refl refl refl volume-accepted.0 false refl refl refl;
-      volume-64 = volume-at 64 (tornHeader 0x880c_0bb0) refl refl refl volume-accepted.0 false refl refl refl;
-      volume-128 = volume-at 128 tornVolume refl refl refl volume-accepted.0 false refl refl refl;
-      volume-191 = volume-at 191 tornVolume refl refl refl volume-accepted.0 false refl refl refl;
-      volume-192 = volume-at 192 markedRead refl refl refl volume-accepted.1 true volume-accepted.2 refl refl;
+      volume_0 = volume_at 0 blank_read refl refl refl volume_accepted.0 false refl refl refl;
+      volume_8 = volume_at 8 (torn_header 0) refl refl refl volume_accepted.0 false refl refl refl;
+      volume_11 = volume_at 11 (torn_header 0x000c_0bb0) refl refl refl volume_accepted.0 false refl refl refl;
+      volume_64 = volume_at 64 (torn_header 0x880c_0bb0) refl refl refl volume_accepted.0 false refl refl refl;
+      volume_128 = volume_at 128 torn_volume refl refl refl volume_accepted.0 false refl refl refl;
+      volume_191 = volume_at 191 torn_volume refl refl refl volume_accepted.0 false refl refl refl;
+      volume_192 = volume_at 192 marked_read refl refl refl volume_accepted.1 true volume_accepted.2 refl refl;
     }
 
-pub other-computed : OtherCuts
-unfolding cut lengthOk parseHeader check integrity shape place numberOk payloadOk payloadOf payloadStart payloadLength headerSum headerBytes frontBytes identityBytes historyBytes pageHeaderBytes bytes le crc32c finalRemainder remainder digest reversed decide filled partBytes judged judgedBytes refusal judgeRow verdicts rowRules firstVerdicts firstTally writable storeRules cleanMark demoted pairHeal pairFrom partFrom partInRange pairInRange numbered badPayload badHeader blank oppositeSlot unsupported newer pairCase
-other-computed =
+pub other_computed : OtherCuts
+unfolding cut lengthOk parseHeader check integrity shape place numberOk payloadOk payload_of payloadStart payloadLength headerSum headerBytes frontBytes identityBytes historyBytes page_header_bytes bytes le crc32c finalRemainder remainder digest reversed decide filled partBytes judged judgedBytes refusal judgeRow verdicts rowRules firstVerdicts firstTally writable storeRules cleanMark demoted pairHeal pairFrom partFrom partInRange pairInRange numbered badPayload badHeader blank oppositeSlot unsupported newer pairCase
+other_computed =
     record {
-      second-140 =
-          computed-row (secondWrite 140) {mark = false} (rw new-second (read-once (cut 140 nextPage blankBytes) secondPage.b.expect ∙ second-read))
-          (more volume-pair (more first-page (more second-pair none))) (page-handed (secondWrite 140) volumePair (firstPage ∷ []) refl) refl refl;
-      later-64 = later-at 64 (tornHeader 0xe83c_e718) refl refl refl refl refl;
-      later-133 = later-at 133 (tornPayload 4 6 0xe83c_e718 0xd61e_00d0) refl refl refl refl refl;
+      second_140 =
+          computed_row (second_write 140) {mark = false} (rw next_page_is (read_once_is (cut 140 next_page blank_bytes) second_page.b.expect ∙ torn_second_read))
+          (more volume_pair_read (more first_page_read (more torn_pair_read none))) (page_handed (second_write 140) volume_pair (first_page ∷ []) refl) refl refl;
+      later_64 = later_at 64 (torn_header 0xe83c_e718) refl refl refl refl refl;
+      later_133 = later_at 133 (torn_payload 4 6 0xe83c_e718 0xd61e_00d0) refl refl refl refl refl;
     }
 
 -- ---- what the theorem leaves out
 
-module _ (k : ℕ) (read : readOnce (cut k markedBytes blankBytes) volumePair.b.expect ≡ badMagic)
-    (mark-is : cond (standsWhole (cut k markedBytes blankBytes) markedBytes (volumeRecord true)) (recordMark (volumeRecord true)) false ≡ false) where
-  magic-at : Computed (volumeWrite k) badMagic Heal.Nothing false damagedVolume oldRecords
-  unfolding payloadOf payloadStart payloadLength headerBytes frontBytes identityBytes historyBytes volumeBytes baseBytes tail_bytes bytes le decide filled partBytes judged judgedBytes refusal judgeRow verdicts rowRules firstVerdicts firstTally writable storeRules cleanMark demoted pairHeal pairFrom partFrom partInRange pairInRange numbered badPayload badHeader blank oppositeSlot unsupported newer pairCase
-  magic-at = volume-at k badMagic read refl refl volume-accepted.0 false mark-is refl refl
+module _ (k : ℕ) (read : read_once (cut k marked_bytes blank_bytes) volume_pair.b.expect ≡ bad_magic)
+    (mark_is : cond (stands_whole (cut k marked_bytes blank_bytes) marked_bytes (volume_record true)) (clean_mark (volume_record true)) false ≡ false) where
+  magic_at : Computed (volume_write k) bad_magic Heal.Nothing false damaged_volume old_records
+  unfolding payload_of payloadStart payloadLength headerBytes frontBytes identityBytes historyBytes volumeBytes baseBytes tail_bytes bytes le decide filled partBytes judged judgedBytes refusal judgeRow verdicts rowRules firstVerdicts firstTally writable storeRules cleanMark demoted pairHeal pairFrom partFrom partInRange pairInRange numbered badPayload badHeader blank oppositeSlot unsupported newer pairCase
+  magic_at = volume_at k bad_magic read refl refl volume_accepted.0 false mark_is refl refl
 
-pub magic-computed : MagicCuts
-unfolding cut lengthOk parseHeader check integrity headerBytes frontBytes identityBytes historyBytes volumeBytes baseBytes tail_bytes bytes le standsWhole
-magic-computed =
-    Every.more (magic-at 1 refl refl)
-    (Every.more (magic-at 2 refl refl)
-    (Every.more (magic-at 3 refl refl)
-    (Every.more (magic-at 4 refl refl) (Every.more (magic-at 5 refl refl) (Every.more (magic-at 6 refl refl) Every.none)))))
+pub magic_computed : MagicCuts
+unfolding cut lengthOk parseHeader check integrity headerBytes frontBytes identityBytes historyBytes volumeBytes baseBytes tail_bytes bytes le stands_whole
+magic_computed =
+    Every.more (magic_at 1 refl refl)
+    (Every.more (magic_at 2 refl refl)
+    (Every.more (magic_at 3 refl refl)
+    (Every.more (magic_at 4 refl refl) (Every.more (magic_at 5 refl refl) (Every.more (magic_at 6 refl refl) Every.none)))))

@@ -1,2 +1,3 @@
+pub mod Writes
 pub mod SlotsRead
 pub mod Computed

@@ -7,8 +7,8 @@ use Rattle.judge_frames.specs.Frames.{judged, judgedBytes}
 use Rattle.judge.specs.declared.SlotRead.{SlotRead}
 use Rattle.verdict.specs.declared.verdict.Heal.{Heal}
 use Rattle.verdict.specs.declared.verdict.Judged.{Judged}
-use Rattle.cut.specs.Store.{Pair, slot_at, accepts, frames, slotRead}
-use Rattle.cut.specs.Cut.{Write, left, withBytes, after, handed, PayloadIs}
+use Rattle.cut.specs.Store.{Pair, slot_at, accepts, frames, slot_read}
+use Rattle.cut.specs.Cut.{Write, left, with_bytes, after, handed, PayloadIs}
 
 -- ---- what is computed
 
@@ -21,7 +21,7 @@ pub data AllRead : List Pair → List (List ℕ) → Type 0 where
 -- After the cut of w the written slot is read so; the judge answers this heal and this clean mark, writable and not refused, and writes
 -- these verdicts, four bytes a pair: standing, winner, A, B; and these records are read back.
 pub record Computed (w : Write) (slot : SlotRead) (heal : Heal) (clean : Bool) (verdict : List ℕ) (records : List (List ℕ)) : Type 0 where
-  pub read : slotRead (withBytes (left w) (slot_at w.index w.pair)) ≡ slot
+  pub read : slot_read (with_bytes (left w) (slot_at w.index w.pair)) ≡ slot
   pub answer : judged (frames (after w)) (flag (handed w)) 12
       ≡ Judged.Done (record { heal = heal; writable = true; clean = clean; refused = false })
   pub written : judgedBytes (frames (after w)) (flag (handed w)) (replicate 12 0) ≡ verdict
@@ -29,28 +29,28 @@ pub record Computed (w : Write) (slot : SlotRead) (heal : Heal) (clean : Bool) (
 
 -- ---- how a slot is read
 
-abbrev pub blankRead : SlotRead
-blankRead = record { status = SlotStatus.Blank; facts = HeaderFacts.Nothing }
+abbrev pub blank_read : SlotRead
+blank_read = record { status = SlotStatus.Blank; facts = HeaderFacts.Nothing }
 
-abbrev pub badMagic : SlotRead
-badMagic = record { status = SlotStatus.BadMagic; facts = HeaderFacts.Nothing }
+abbrev pub bad_magic : SlotRead
+bad_magic = record { status = SlotStatus.BadMagic; facts = HeaderFacts.Nothing }
 
 -- A header that fails its checksum, with the checksum stored in it.
-abbrev pub tornHeader : (own : ℕ) → SlotRead
-tornHeader own = record { status = SlotStatus.BadHeaderCrc; facts = HeaderFacts.Stored own }
+abbrev pub torn_header : (own : ℕ) → SlotRead
+torn_header own = record { status = SlotStatus.BadHeaderCrc; facts = HeaderFacts.Stored own }
 
 -- Of a header that passes: its own checksum and the previous one.
-abbrev pub factsWith : (generation number own prev : ℕ) → HeaderFacts
-factsWith generation number own prev =
+abbrev pub facts_with : (generation number own prev : ℕ) → HeaderFacts
+facts_with generation number own prev =
     HeaderFacts.Numbered own (record { generation = generation; meta_seq = number; prev_header_crc32c = prev })
 
 -- A payload that fails its checksum.
-abbrev pub tornPayload : (generation number own prev : ℕ) → SlotRead
-tornPayload generation number own prev = record { status = SlotStatus.BadPayloadCrc; facts = factsWith generation number own prev }
+abbrev pub torn_payload : (generation number own prev : ℕ) → SlotRead
+torn_payload generation number own prev = record { status = SlotStatus.BadPayloadCrc; facts = facts_with generation number own prev }
 
 -- A Valid slot, with a payload of some length.
-abbrev pub validRead : (generation number own prev length : ℕ) → SlotRead
-validRead generation number own prev length =
+abbrev pub valid_read : (generation number own prev length : ℕ) → SlotRead
+valid_read generation number own prev length =
     record {
       status =
           SlotStatus.Valid
@@ -65,5 +65,5 @@ validRead generation number own prev length =
             payload_start = 128;
             payload_len = length;
           });
-      facts = factsWith generation number own prev;
+      facts = facts_with generation number own prev;
     }

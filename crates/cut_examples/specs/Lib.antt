@@ -1,2 +1,4 @@
+pub mod Stores
+pub mod Writes
 pub mod Computed
 pub mod Cuts

@@ -1,9 +1,42 @@
-// What is judged and read back after each cut of the cut theorem's examples, computed and not concluded from the theorem. Each function does
-// nothing: its contract is what specs/Cuts.antt expects.
+// The cut theorem is not empty: two stores are sound, writes to both slots of a page, to a Blank one and to the volume record are correct, and
+// cuts after no byte, in the header, in the payload and after the last byte are no accidents. What is judged and read back after each cut is
+// computed, and not concluded from the theorem. Each function does nothing: its contract is what specs/Writes.antt and specs/Cuts.antt say.
 #![tactic(auto)]
 
+ghost use Rattle.cut_examples.specs.Writes.{StoresSound, StoresWritten, MetIsEnough, PageMet, VolumeMet, SecondMet, LaterMet, StandsWhole, MarkHanded};
 ghost use Rattle.cut_examples.specs.Cuts.{PageCuts, VolumeCuts, OtherCuts, MagicCuts};
 
+// The stores are sound, and they are those that are written to.
+#[tactic(auto, using(crate::proofs::Writes::stores_sound))]
+pub fn stores()
+    ensures sound { StoresSound }
+    ensures written { StoresWritten }
+{}
+
+// The hypotheses are those of the theorem.
+#[tactic(auto, using(crate::proofs::Writes::met_is_enough))]
+pub fn hypotheses()
+    ensures { MetIsEnough }
+{}
+
+// They are met at nineteen cuts of four writes.
+#[tactic(auto, using(crate::proofs::Writes::page_cuts, crate::proofs::Writes::volume_cuts, crate::proofs::Writes::second_cut, crate::proofs::Writes::later_cuts))]
+pub fn met()
+    ensures page { PageMet }
+    ensures volume { VolumeMet }
+    ensures second { SecondMet }
+    ensures later { LaterMet }
+{}
+
+// On both sides of the byte that makes the new record whole.
+#[tactic(auto, using(crate::proofs::Writes::page_whole, crate::proofs::Writes::volume_marks))]
+pub fn whole()
+    ensures page { StandsWhole }
+    ensures mark { MarkHanded }
+{}
+
+// What is judged and read back after each cut.
+#[tactic(auto, using(crate::proofs::Computed::page_computed, crate::proofs::Computed::volume_computed, crate::proofs::Computed::other_computed))]
 pub fn cuts()
     ensures page { PageCuts }
     ensures volume { VolumeCuts }
@@ -11,6 +44,7 @@ pub fn cuts()
 {}
 
 // After one to six bytes over a Blank slot.
+#[tactic(auto, using(crate::proofs::Computed::magic_computed))]
 pub fn left_out()
     ensures { MagicCuts }
 {}

@@ -1,18 +1,12 @@
 -- The verdicts in a list of bytes, four each: how many there are, what is read and written of one, and the list as their bytes.
-use Rattle.std.proofs.Common.{◌≡◌, refl, sym, ap, ◌∙◌, Bool, true, false, List, [], ◌∷◌, ◌++◌, ℕ, zero, suc, ◌+◌, ◌*◌, ◌/◌, ◌%◌, ◌<◌, ◌&&◌, length, get_or, set, map, flat_map, slice_get, arith, Option, Some, None, eqb, eqb-true, eq-eqb, ne_eqb}
-use borrow.Author.Tests.{eqb-false}
+use Rattle.std.proofs.Common.{◌≡◌, refl, ap, ◌∙◌, List, [], ◌∷◌, ◌++◌, ℕ, zero, suc, ◌+◌, ◌*◌, ◌/◌, ◌%◌, ◌<◌, ◌&&◌, length, get_or, set, take, drop, map, flat_map, slice_get, arith, Some, eqb}
 use Rattle.judge.specs.declared.verdict.PairVerdict.{PairVerdict}
 use Rattle.judge.specs.Values.{standing_from, choice_from, slot_verdict_from}
 use Rattle.judge.specs.Frames.{verdict_bytes, verdict_from, verdict_cells, row_bytes}
 
 -- So many verdicts, as the code asks it.
 pub whole_cells : (len n : ℕ) → eqb (len % 4) 0 && eqb (len / 4) n ≡ eqb len (n * 4)
-whole_cells len n = go (eqb (len % 4) 0) (eqb (len / 4) n) refl refl
-  where
-    go : (whole many : Bool) → eqb (len % 4) 0 ≡ whole → eqb (len / 4) n ≡ many → whole && many ≡ eqb len (n * 4)
-    go true true w m = let w' = eqb-true (len % 4) 0 w in let m' = eqb-true (len / 4) n m in sym (eq-eqb len (n * 4) (omega arith))
-    go true false w m = let m' = eqb-false (len / 4) n m in sym (ne_eqb len (n * 4) (λ same. m' (omega arith)))
-    go false many w m = let w' = eqb-false (len % 4) 0 w in sym (ne_eqb len (n * 4) (λ same. w' (omega arith)))
+whole_cells len n = grind arith
 
 pub length_cells : (s : List ℕ) → length (verdict_cells s) ≡ length s / 4
 length_cells [] = refl
@@ -45,15 +39,15 @@ cells_read (x ∷ y ∷ z ∷ []) i within = absurd (omega arith)
 cells_read (x ∷ y ∷ z ∷ w ∷ s) zero within = refl
 cells_read (x ∷ y ∷ z ∷ w ∷ s) (suc i) within = rw (next i, past (i * 4) 1, past (i * 4) 2, past (i * 4) 3) (cells_read s i (omega arith))
 
-pub cells_put : (s : List ℕ) (i x y z w : ℕ) → i < length (verdict_cells s)
-    → verdict_cells (set (set (set (set s (i * 4) x) (i * 4 + 1) y) (i * 4 + 2) z) (i * 4 + 3) w) ≡ set (verdict_cells s) i (x ∷ y ∷ z ∷ w ∷ [])
-cells_put [] i x y z w within = absurd (omega arith)
-cells_put (a ∷ []) i x y z w within = absurd (omega arith)
-cells_put (a ∷ b ∷ []) i x y z w within = absurd (omega arith)
-cells_put (a ∷ b ∷ c ∷ []) i x y z w within = absurd (omega arith)
-cells_put (a ∷ b ∷ c ∷ d ∷ s) zero x y z w within = refl
-cells_put (a ∷ b ∷ c ∷ d ∷ s) (suc i) x y z w within =
-    rw (next i, past (i * 4) 1, past (i * 4) 2, past (i * 4) 3) (ap (λ (rest : List (List ℕ)). (a ∷ b ∷ c ∷ d ∷ []) ∷ rest) (cells_put s i x y z w (omega arith)))
+pub cells_put : (s : List ℕ) (i : ℕ) (v : PairVerdict) → i < length (verdict_cells s)
+    → verdict_cells (take (i * 4) s ++ (verdict_bytes v ++ drop 4 (drop (i * 4) s))) ≡ set (verdict_cells s) i (verdict_bytes v)
+cells_put [] i v within = absurd (omega arith)
+cells_put (a ∷ []) i v within = absurd (omega arith)
+cells_put (a ∷ b ∷ []) i v within = absurd (omega arith)
+cells_put (a ∷ b ∷ c ∷ []) i v within = absurd (omega arith)
+cells_put (a ∷ b ∷ c ∷ d ∷ s) zero v within = refl
+cells_put (a ∷ b ∷ c ∷ d ∷ s) (suc i) v within =
+    rw (next i) (ap (λ (rest : List (List ℕ)). (a ∷ b ∷ c ∷ d ∷ []) ∷ rest) (cells_put s i v (omega arith)))
 
 -- Where no rest is left, the list is its verdicts' bytes.
 joined : (s : List ℕ) → length s % 4 ≡ 0 → s ≡ flat_map (λ (four : List ℕ). four) (verdict_cells s)

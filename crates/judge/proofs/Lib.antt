@@ -3,3 +3,7 @@ pub mod PassLaws
 pub mod RowLaws
 pub mod CellLaws
 pub mod FrameLaws
+pub mod HealLaws
+pub mod PartLaws
+pub mod SameLaws
+pub mod JudgeExamples

@@ -1,7 +1,6 @@
 -- The two highest numbers give the rule of the definition, the highest among all other numbered slots: by induction over the slots, with
 -- what they hold of the slots gone through before the candidate's own slot, and after it.
-use Rattle.std.proofs.Common.{◌≡◌, refl, ap, ◌∙◌, Bool, true, false, cond, List, [], ◌∷◌, ℕ, zero, suc, ◌+◌, ◌≤◌, max, arith, eqb, eqb-true, Option, Some}
-use borrow.Author.Tests.{eqb-false}
+use Rattle.std.proofs.Common.{◌≡◌, refl, ap, ◌∙◌, List, [], ◌∷◌, ℕ, zero, suc, ◌+◌, ◌≤◌, max, arith, eqb, Option, Some}
 use Rattle.judge.specs.declared.pairs.Shown.{Shown}
 use Rattle.judge.specs.declared.numbers.Maxima.{Maxima}
 use Rattle.judge.specs.Pairs.{numbered}
@@ -14,11 +13,7 @@ record Held (v : ℕ) (m : Maxima) (h : ℕ) : Type 0 where
   second : h ≤ v → m.second ≡ h
 
 held-others : (v : ℕ) (m : Maxima) (h : ℕ) → Held v m h → others_max m v ≡ h
-held-others v m h held = go (eqb v m.first) refl
-  where
-    go : (own : Bool) → eqb v m.first ≡ own → cond own m.second m.first ≡ h
-    go true is = let own = eqb-true v m.first is in omega (arith, held.first, held.second)
-    go false is = let other = eqb-false v m.first is in omega (arith, held.first)
+held-others v m h held = grind (arith, held.first, held.second)
 
 held_all : (v : ℕ) (ss : List Shown) (m : Maxima) (h : ℕ) → Held v m h → others_max (note_all m ss) v ≡ max h (highest ss)
 held_all v [] m h held = held-others v m h held ∙ omega arith

@@ -1,6 +1,6 @@
 -- The first pass as the code makes it is the definition's: a candidate's number is the one that its slot counts for, so the code's rule and
 -- the definition's agree on every pair; and the tally kept from pair to pair is that of the row.
-use Rattle.std.proofs.Common.{◌≡◌, refl, ◌∙◌, subst, Bool, true, false, cond, ◌&&◌, ◌||◌, List, [], ◌∷◌, ℕ, suc, ◌+◌, ◌*◌, zero-add, arith, eqb, ltb, leb, Option, Some, None}
+use Rattle.std.proofs.Common.{◌≡◌, refl, ◌∙◌, subst, Bool, true, false, cond, ◌||◌, List, [], ◌∷◌, ℕ, suc, ◌+◌, ◌*◌, add-zero, zero-add, arith, Option, Some, None}
 use Rattle.std.specs.Option.{option_or}
 use Rattle.slot.specs.declared.slot.SlotIndex.{SlotIndex}
 use Rattle.slot.specs.Status.{other}
@@ -24,25 +24,9 @@ use Rattle.judge.proofs.NumberLaws.{At, qualifies-same}
 
 opposite-number : (index : SlotIndex) (w : Version) (s : Shown) (v : ℕ) → opposite index w s ≡ Opposite.Candidate (Some v) → numbered s ≡ Some v
 opposite-number index w (Shown.Valid o) v is = cc
-opposite-number index w (Shown.BadPayload o) v is =
-    go (ltb o.generation w.generation) (eqb o.generation (w.generation + 1) && eqb o.prev_header_crc32c w.header_crc32c) is
-  where
-    go : (older next : Bool)
-        → cond older Opposite.OlderDamaged (cond next (Opposite.Candidate (Some o.meta_seq)) Opposite.Damage) ≡ Opposite.Candidate (Some v)
-        → Some o.meta_seq ≡ Some v
-    go true next is = cc
-    go false true is = cc
-    go false false is = cc
-opposite-number index w (Shown.BadHeader stored) v is = go (leb 2 w.generation && eqb stored w.prev_header_crc32c) is
-  where
-    go : (older : Bool) → cond older Opposite.OlderDamaged (Opposite.Candidate None) ≡ Opposite.Candidate (Some v) → ◌≡◌ {A = Option ℕ} None (Some v)
-    go true is = cc
-    go false is = cc
-opposite-number SlotIndex.A w Shown.Blank v is = go (eqb w.generation 1) is
-  where
-    go : (one : Bool) → cond one Opposite.Nothing Opposite.Damage ≡ Opposite.Candidate (Some v) → ◌≡◌ {A = Option ℕ} None (Some v)
-    go true is = cc
-    go false is = cc
+opposite-number index w (Shown.BadPayload o) v is = grind (arith, is)
+opposite-number index w (Shown.BadHeader stored) v is = grind (arith, is)
+opposite-number SlotIndex.A w Shown.Blank v is = grind (arith, is)
 opposite-number SlotIndex.B w Shown.Blank v is = cc
 opposite-number index w Shown.Unsupported v is = cc
 opposite-number index w Shown.Other v is = cc
@@ -67,20 +51,13 @@ module _ (q r : SlotIndex → Option ℕ → Bool) (p : Pair)
   verdict-same : pair_verdict q (pair_case p) ≡ pair_verdict r (pair_case p)
   verdict-same = go (is_unsupported p.a || is_unsupported p.b) (valid p.a) (valid p.b)
     where
-      two : (x y : Bool)
-          → pair_verdict q (cond x PairCase.Lost (cond y (PairCase.Won SlotIndex.A Opposite.Nothing) (PairCase.Won SlotIndex.B Opposite.Nothing)))
-          ≡ pair_verdict r (cond x PairCase.Lost (cond y (PairCase.Won SlotIndex.A Opposite.Nothing) (PairCase.Won SlotIndex.B Opposite.Nothing)))
-      two true y = refl
-      two false true = refl
-      two false false = refl
-
       go : (none : Bool) (a b : Option Version)
           → pair_verdict q (cond none PairCase.Refused (winner p a b)) ≡ pair_verdict r (cond none PairCase.Refused (winner p a b))
       go true a b = refl
       go false None None = refl
       go false (Some a) None = simp (beside SlotIndex.A a (opposite SlotIndex.A a p.b) refl)
       go false None (Some b) = simp (beside SlotIndex.B b (opposite SlotIndex.B b p.a) refl)
-      go false (Some a) (Some b) = two (eqb a.generation b.generation) (ltb b.generation a.generation)
+      go false (Some a) (Some b) = grind arith
 
 verdicts-from : (all : List Shown) (i : ℕ) (ps : List Pair)
     → ((j : ℕ) (s : Shown) → At j (slots ps) s → At (2 * i + j) all s)
@@ -112,23 +89,13 @@ verdicts-same ps = verdicts-from (slots ps) 0 ps (λ j s at. subst (λ (k : ℕ)
 -- ---- its tally
 
 or-or : (x y z : Bool) → (x || y) || z ≡ x || (y || z)
-or-or true y z = refl
-or-or false y z = refl
+or-or x y z = grind arith
 
-or-none : (x : Bool) → x ≡ x || false
-or-none true = refl
-or-none false = refl
+or-none : (x : Bool) → x || false ≡ x
+or-none x = grind arith
 
 count-first : (n : ℕ) (v : PairVerdict) (vs : List PairVerdict) → cond (in_flight v) (n + 1) n + candidates vs ≡ n + candidates (v ∷ vs)
-count-first n v vs = go (in_flight v)
-  where
-    go : (flight : Bool) → cond flight (n + 1) n + candidates vs ≡ n + cond flight (candidates vs + 1) (candidates vs)
-    go true = omega arith
-    go false = refl
-
-tally-at : (t : Tally) (n : ℕ) (page trouble none : Bool) → t.candidates ≡ n → t.page_had_candidate ≡ page → t.troubled ≡ trouble
-    → t.refused ≡ none → t ≡ record { candidates = n; page_had_candidate = page; troubled = trouble; refused = none }
-tally-at t n page trouble none n-is page-is trouble-is none_is = rw (← n-is, ← page-is, ← trouble-is, ← none_is)
+count-first n v vs = grind arith
 
 tallies-from : (m : Maxima) (t : Tally) (ps : List Pair)
     → tallies m false t ps
@@ -138,11 +105,7 @@ tallies-from : (m : Maxima) (t : Tally) (ps : List Pair)
       troubled = t.troubled || any_trouble (verdicts_by m ps);
       refused = t.refused || any_refused (verdicts_by m ps);
     }
-tallies-from m t [] =
-    tally-at t (t.candidates + 0) (t.page_had_candidate || false) (t.troubled || false) (t.refused || false) (omega arith)
-    (or-none t.page_had_candidate)
-    (or-none t.troubled)
-    (or-none t.refused)
+tallies-from m t [] = simp (add-zero, or-none)
 tallies-from m t (p ∷ ps) =
     let v = pair_verdict (by_maxima m) (pair_case p) in
     tallies-from m (tallied t false (pair_case p) v) ps ∙ simp (or-or, count-first)
@@ -160,13 +123,13 @@ or-assoc : {T : Type 0} (x y z : Option T) → option_or x (option_or y z) ≡ o
 or-assoc None y z = refl
 or-assoc (Some x) y z = refl
 
+or-last : {T : Type 0} (x : Option T) → option_or x None ≡ x
+or-last None = refl
+or-last (Some x) = refl
+
 pub heals-from : (i : ℕ) (before : Option (ℕ × SlotIndex)) (vs : List PairVerdict) → heals i before vs ≡ option_or (heal i vs) before
 heals-from i before [] = refl
 heals-from i before (v ∷ vs) = heals-from (i + 1) (option_or (pair_heal i v) before) vs ∙ or-assoc (heal (i + 1) vs) (pair_heal i v) before
 
 pub heals-same : (vs : List PairVerdict) → heals 0 None vs ≡ heal 0 vs
-heals-same vs = heals-from 0 None vs ∙ or-none-last (heal 0 vs)
-  where
-    or-none-last : (o : Option (ℕ × SlotIndex)) → option_or o None ≡ o
-    or-none-last None = refl
-    or-none-last (Some x) = refl
+heals-same vs = heals-from 0 None vs ∙ or-last (heal 0 vs)

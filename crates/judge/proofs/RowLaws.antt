@@ -1,5 +1,5 @@
 -- What the passes leave of a row is its judgement, whatever the verdicts are kept in.
-use Rattle.std.proofs.Common.{◌≡◌, refl, ap, ◌∙◌, Bool, true, List, [], ◌∷◌, ◌++◌, ℕ, zero, suc, ◌+◌, ◌<◌, length, map, set, take, drop, arith, add-one, cond, ◌||◌, false, eq-eqb, ne_eqb, eqb, leb, le-leb, ◌≤◌, ◌&&◌, not, slice_get, Option, Some, None, Result, OnOk, OnErr, subst}
+use Rattle.std.proofs.Common.{◌≡◌, refl, ap, ◌∙◌, Bool, true, List, [], ◌∷◌, ◌++◌, ℕ, zero, suc, ◌+◌, ◌<◌, length, map, set, take, drop, arith, add-one, cond, false, eqb, leb, ◌≤◌, ◌&&◌, slice_get, Option, Some, None, Result, OnOk, OnErr, subst}
 use mir.Val.{bool_byte}
 use Rattle.std.specs.Option.{option_or}
 use Rattle.std.specs.List.{list_all}
@@ -14,8 +14,8 @@ use Rattle.judge.specs.declared.verdict.Judgement.{Judgement}
 use Rattle.judge.specs.declared.verdict.JudgeError.{JudgeError}
 use Rattle.judge.specs.Numbers.{slots}
 use Rattle.judge.specs.Maxima.{no_maxima, note_all}
-use Rattle.judge.specs.Verdict.{is_in_flight, in_flight}
-use Rattle.judge.specs.Judge.{demoted, pair_heal, heal, first_verdicts, first_tally, volume_verdict, store_rules, last_verdicts, writable, row_rules, verdicts, judgement, error, unless, left}
+use Rattle.judge.specs.Verdict.{in_flight}
+use Rattle.judge.specs.Judge.{demoted, pair_heal, first_verdicts, first_tally, volume_verdict, store_rules, last_verdicts, writable, row_rules, verdicts, judgement, error, unless, left}
 use Rattle.judge.specs.Passes.{verdicts_by, no_tally, tallies, heals}
 use Rattle.judge.proofs.PassLaws.{verdicts-same, tally-same, heals-same}
 
@@ -27,7 +27,7 @@ in-range false x m is = (cc, cc)
 -- No error: a pair at least, room for its verdicts, and all values in range.
 pub admitted : (n clean : ℕ) (fits within : Bool) → (n ≡ 0 → ⊥) → fits ≡ true → clean ≤ 1 → within ≡ true
     → error (eqb n 0) true fits (leb clean 1 && within) ≡ None
-admitted n clean fits within some fit small in_range = simp (ne_eqb n 0 some, fit, le-leb clean 1 small, in_range)
+admitted n clean fits within some fit small in_range = grind (arith, some, fit, small, in_range)
 
 head-is : (vs : List PairVerdict) (v : PairVerdict) → slice_get vs 0 ≡ Some v → v ≡ volume_verdict vs
 head-is [] v is = cc
@@ -58,12 +58,7 @@ idle true v none = rw none
 idle false v none = refl
 
 pub idle-heal : (i : ℕ) (before : Option (ℕ × SlotIndex)) (v : PairVerdict) → in_flight v ≡ false → option_or (pair_heal i v) before ≡ before
-idle-heal i before v none = go (is_in_flight v.a) (is_in_flight v.b) none
-  where
-    go : (a b : Bool) → a || b ≡ false → option_or (cond b (Some (i, SlotIndex.B)) (cond a (Some (i, SlotIndex.A)) None)) before ≡ before
-    go true b none = cc
-    go false true none = cc
-    go false false none = refl
+idle-heal i before v none = grind (arith, none)
 
 -- Cells that each hold a verdict.
 module _ {C : Type 0} (cell : PairVerdict → C) (read : C → PairVerdict) where

@@ -8,7 +8,8 @@ use Rattle.judge.specs.declared.verdict.PairVerdict.{PairVerdict}
 use Rattle.judge.specs.declared.verdict.Judgement.{Judgement}
 use Rattle.judge.specs.declared.verdict.JudgeError.{JudgeError}
 use Rattle.judge.specs.Part.{part_width, part_at, part_shown, is_in_range}
-use Rattle.judge.specs.Values.{standing_number, choice_number, slot_verdict_number, standing_from, choice_from, slot_verdict_from}
+use Rattle.slot.specs.Numbers.{choice_number}
+use Rattle.judge.specs.Values.{standing_number, slot_verdict_number, standing_from, choice_from, slot_verdict_from}
 use Rattle.judge.specs.Judge.{verdicts, judgement, error, unless, left}
 
 -- ---- a pair's frame

@@ -1,7 +1,9 @@
 -- The numbers of standings, winners, slot verdicts, heals and errors, both ways (docs/FORMAT.md, "The store verdict" and "Refusals").
 use Rattle.std.specs.Prelude.{◌≡◌, ℕ, ◌==◌, if◌then◌else◌, Option, Some, None}
+use Rattle.std.specs.Option.{option_map}
 use Rattle.slot.specs.declared.slot.SlotIndex.{SlotIndex}
 use Rattle.slot.specs.Status.{slot_number}
+use Rattle.slot.specs.Numbers.{choice_number}
 use Rattle.judge.specs.declared.verdict.SlotVerdict.{SlotVerdict}
 use Rattle.judge.specs.declared.verdict.Standing.{Standing}
 use Rattle.judge.specs.declared.verdict.JudgeError.{JudgeError}
@@ -12,11 +14,6 @@ standing_number Standing.Confirmed = 0
 standing_number Standing.Unconfirmed = 1
 standing_number Standing.Lost = 2
 standing_number Standing.Refused = 3
-
--- A pair's winner or its slot to heal: 0 none, 1 A, 2 B.
-abbrev pub choice_number : Option SlotIndex → ℕ
-choice_number None = 0
-choice_number (Some index) = slot_number index
 
 -- 0 Winner, 1 Nothing, 2 OlderDamaged, 3 InFlight, 4 Damage.
 abbrev pub slot_verdict_number : SlotVerdict → ℕ
@@ -47,6 +44,7 @@ abbrev pub standing_from : ℕ → Standing
 standing_from n =
     if n == 0 then Standing.Confirmed else if n == 1 then Standing.Unconfirmed else if n == 2 then Standing.Lost else Standing.Refused
 
+-- A choice of slots, as `choice_number` of the slots numbers it: 0 none, 1 A, 2 B.
 abbrev pub choice_from : ℕ → Option SlotIndex
 choice_from n = if n == 0 then None else if n == 1 then Some SlotIndex.A else Some SlotIndex.B
 
@@ -57,3 +55,13 @@ slot_verdict_from n =
     else if n == 2 then SlotVerdict.OlderDamaged
     else if n == 3 then SlotVerdict.InFlight
     else SlotVerdict.Damage
+
+abbrev pub heal_from : ℕ → ℕ → Option (ℕ × SlotIndex)
+heal_from slot pair = option_map (λ index. (pair, index)) (choice_from slot)
+
+-- A number stands for what it is of.
+pub record NumbersBack : Type 0 where
+  pub standing : (s : Standing) → standing_from (standing_number s) ≡ s
+  pub choice : (o : Option SlotIndex) → choice_from (choice_number o) ≡ o
+  pub slot : (v : SlotVerdict) → slot_verdict_from (slot_verdict_number v) ≡ v
+  pub heal : (h : Option (ℕ × SlotIndex)) → heal_from (heal_slot h) (heal_pair h) ≡ h

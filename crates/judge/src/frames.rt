@@ -9,14 +9,14 @@
 // | 2, 3 | A, B: 0 Winner, 1 Nothing, 2 OlderDamaged, 3 InFlight, 4 Damage |
 ghost use Rattle.std.specs.Prelude.{◌≡◌, ◌*◌, ◌==◌, length};
 ghost use Rattle.judge.specs.Frames.{verdict_width, verdict_bytes, verdict_from, verdict_cells, pair_from, pair_in_range, judge_frames, frames_left};
+ghost use Rattle.judge.specs.Examples.{JudgeExamples};
 ghost use Rattle.judge.specs.ReadBack.{reads_back, cells_fit};
 
 use crate::pairs::Pair;
 use crate::part::{PART, SlotPart};
 use crate::row::{ReadPair, Verdicts};
-use crate::verdict::{
-    JudgeError, Judgement, PairVerdict, SlotVerdict, Standing, choice_from, choice_number,
-};
+use crate::verdict::{JudgeError, Judgement, PairVerdict, SlotVerdict, Standing, choice_from};
+use slot::numbers::choice_number;
 
 /// The width of a pair's frame,
 pub const FRAME: usize = 2 * PART;
@@ -92,22 +92,13 @@ impl Verdicts for VerdictBytes<'_> {
     #[tactic(auto, using(crate::proofs::CellLaws::length_cells, crate::proofs::CellLaws::cells_read))]
     fn verdict(&self, i: usize) -> PairVerdict {
         let at = i * VERDICT;
-        PairVerdict::from_bytes([
-            self.0[at],
-            self.0[at + 1],
-            self.0[at + 2],
-            self.0[at + 3],
-        ])
+        PairVerdict::from_bytes([self.0[at], self.0[at + 1], self.0[at + 2], self.0[at + 3]])
     }
 
     #[tactic(auto, using(crate::proofs::CellLaws::length_cells, crate::proofs::CellLaws::cells_put))]
     fn put(&mut self, i: usize, v: PairVerdict) {
         let at = i * VERDICT;
-        let bytes = v.bytes();
-        self.0[at] = bytes[0];
-        self.0[at + 1] = bytes[1];
-        self.0[at + 2] = bytes[2];
-        self.0[at + 3] = bytes[3];
+        self.0[at..at + VERDICT].copy_from_slice(&v.bytes());
     }
 
     ghost fitted = { λ s n. cells_fit s.0.now n };
@@ -129,3 +120,9 @@ pub fn judge(frames: &[u8], clean: u8, out: &mut [u8]) -> Result<Judgement, Judg
     let VerdictBytes(_) = out;
     answer
 }
+
+// Does nothing: its contract is the examples.
+#[tactic(auto, using(crate::proofs::JudgeExamples::judge_examples))]
+pub fn examples()
+    ensures { JudgeExamples }
+{}

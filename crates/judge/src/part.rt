@@ -63,6 +63,17 @@ impl Version {
     }
 }
 
+/// What a header shows: 0 nothing, 1 its stored checksum, 2 the fields of a numbered slot too.
+pub fn facts_number(facts: Option<HeaderFacts>) -> u8
+    ensures { result ≡ facts_number facts }
+{
+    match facts {
+        None => 0,
+        Some(HeaderFacts { numbered: None, .. }) => 1,
+        Some(_) => 2,
+    }
+}
+
 #[tactic(auto, unfolding(codec::specs::Bytes::le))]
 fn u32_at(frame: &[u8], at: usize) -> u32
     requires { at + 4 ≤ length frame.now }
@@ -92,14 +103,9 @@ impl SlotPart {
             SlotStatus::Valid(info) => Version::of_info(info),
             _ => Version::of_facts(facts),
         };
-        let number = match facts {
-            None => 0,
-            Some(HeaderFacts { numbered: None, .. }) => 1,
-            Some(_) => 2,
-        };
         SlotPart {
             code: status.code(),
-            facts: number,
+            facts: facts_number(facts),
             version,
         }
     }

@@ -2,6 +2,7 @@
 ghost use Rattle.std.specs.Prelude.{◌≡◌, ◌==◌, length, true, refl};
 ghost use Rattle.judge.specs.Records.{shown_read, pair_read, judge_records, records_left};
 ghost use Rattle.judge.specs.ReadBack.{same_length};
+ghost use Rattle.judge.specs.Same.{NothingGiven, ChecksumGiven, SameJudge, IgnoredFields};
 
 use crate::pairs::{Pair, Shown, Version};
 use crate::row::{ReadPair, Verdicts};
@@ -33,7 +34,8 @@ impl SlotRead {
                 SlotStatus::BadPayloadCrc,
                 Some(
                     HeaderFacts {
-                        numbered: Some(_), ..
+                        numbered: Some(_),
+                        ..
                     },
                 ),
             ) => Shown::BadPayload(Version::of_facts(self.facts)),
@@ -111,3 +113,22 @@ pub fn judge(
     let VerdictSlice(_) = out;
     answer
 }
+
+// Does nothing: its contract is that the judge over frames filled from these pairs answers the same.
+#[tactic(auto, using(crate::proofs::SameLaws::same_judge))]
+pub fn same_law()
+    ensures { SameJudge }
+{}
+
+// Does nothing: its contract is that fields which are not given are ignored.
+#[tactic(auto, using(crate::proofs::SameLaws::ignored_fields))]
+pub fn ignored_law()
+    ensures { IgnoredFields }
+{}
+
+// Does nothing: its contract is that a frame filled from a slot keeps what stood in the fields which are not given.
+#[tactic(auto, using(crate::proofs::PartLaws::nothing_given, crate::proofs::PartLaws::checksum_alone))]
+pub fn kept_law()
+    ensures nothing { NothingGiven }
+    ensures checksum { ChecksumGiven }
+{}

@@ -104,7 +104,11 @@ fn first_pass<P: ReadPair, V: Verdicts>(pairs: &[P], m: Maxima, out: &mut V) -> 
 }
 
 // Makes each first verdict the last one, and answers the write to heal. The volume record has a rule of its own.
-fn second_pass<V: Verdicts>(rules: StoreRules, pairs: usize, out: &mut V) -> Option<(usize, SlotIndex)>
+fn second_pass<V: Verdicts>(
+    rules: StoreRules,
+    pairs: usize,
+    out: &mut V,
+) -> Option<(usize, SlotIndex)>
     requires room { length (V.cells out.old) ≡ pairs }
     requires hold { map V.cell (map V.read (V.cells out.old)) ≡ V.cells out.old }
     ensures room { length (V.cells out.new) ≡ length (V.cells out.old) }

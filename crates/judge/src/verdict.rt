@@ -6,12 +6,13 @@
 ghost use Rattle.std.specs.Prelude.{◌≡◌, ◌<◌};
 ghost use Rattle.judge.specs.Maxima.{by_maxima};
 ghost use Rattle.judge.specs.Verdict.{slot_verdict, winner_beside, no_winner, pair_verdict, in_flight};
-ghost use Rattle.judge.specs.Judge.{demoted, demotes, store_rules, writable, pair_heal};
-ghost use Rattle.judge.specs.Values.{standing_number, standing_from, slot_verdict_number, slot_verdict_from, choice_number, choice_from, heal_slot, heal_pair, error_number};
+ghost use Rattle.judge.specs.Judge.{demoted, demotes, store_rules, writable, pair_heal, HealNames};
+ghost use Rattle.judge.specs.Values.{standing_number, standing_from, slot_verdict_number, slot_verdict_from, choice_from, heal_slot, heal_pair, error_number, NumbersBack};
 ghost use Rattle.judge.specs.Passes.{tallied};
 
 use crate::numbers::Maxima;
 use crate::pairs::{Opposite, PairCase};
+use slot::numbers::choice_number;
 use slot::slot::SlotIndex;
 
 // What became of one slot.
@@ -142,14 +143,7 @@ impl Standing {
     }
 }
 
-// The number of a pair's winner, or of its slot to heal, 0 for none,
-pub fn choice_number(slot: Option<SlotIndex>) -> u8
-    ensures { result ≡ choice_number slot }
-{
-    slot.map_or(0, |index| index.number())
-}
-
-// and what a number stands for.
+// What the number of a choice of slots stands for: a pair's winner, or its slot to heal.
 pub fn choice_from(n: u8) -> Option<SlotIndex>
     ensures { result ≡ choice_from n }
 {
@@ -342,3 +336,15 @@ impl PairVerdict {
         }
     }
 }
+
+// Does nothing: its contract is that a slot is named for healing if and only if its last verdict is InFlight.
+#[tactic(auto, using(crate::proofs::HealLaws::heal_names))]
+pub fn heal_law()
+    ensures { HealNames }
+{}
+
+// Does nothing: its contract is that each number of a standing, a choice, a slot's verdict and a heal is read back as what it is of.
+#[tactic(auto, using(crate::specs::ReadBack::numbers_back))]
+pub fn numbers_law()
+    ensures { NumbersBack }
+{}

@@ -3,4 +3,6 @@ pub mod Payload
 pub mod Header
 pub mod Read
 pub mod Write
+pub mod Laws
+pub mod Table
 pub mod Numbers

@@ -8,7 +8,7 @@ use crate::slot::{
     EncodeError, FORMAT_1, FORMAT_2, HEADER_LEN, MAGIC, MAX_LOG2_SLOT_SIZE, MIN_LOG2_SLOT_SIZE,
     SLOT_COUNT, SlotFields,
 };
-use codec::codec::Writer;
+use codec::codec::{Writer, copy};
 use codec::crc32c::crc32c;
 
 // Encodes a complete slot into `out`, which must be exactly the slot size. Gives the header's CRC, which the next generation records as its
@@ -62,7 +62,7 @@ fn fill_body(body: &mut [u8], payload: &[u8])
     ensures { body.new ≡ payload.now ++ replicate (length body.old - length payload.now) 0 }
 {
     let (front, rest) = body.split_at_mut(payload.len());
-    front.copy_from_slice(payload);
+    copy(front, payload);
     rest.fill(0);
 }
 

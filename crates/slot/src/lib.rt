@@ -3,6 +3,7 @@
 
 pub mod encode;
 pub mod header;
+pub mod laws;
 pub mod numbers;
 pub mod slot;
 pub mod validate;

@@ -179,14 +179,13 @@ impl Header {
         if self.magic != MAGIC {
             return None;
         }
-        let numbered = passed.then_some(NumberedHeader {
-            generation: self.generation,
-            meta_seq: self.meta_seq,
-            prev_header_crc32c: self.prev_header_crc32c,
-        });
         Some(HeaderFacts {
             stored_header_crc32c: self.header_crc32c,
-            numbered,
+            numbered: passed.then_some(NumberedHeader {
+                generation: self.generation,
+                meta_seq: self.meta_seq,
+                prev_header_crc32c: self.prev_header_crc32c,
+            }),
         })
     }
 }

@@ -17,30 +17,30 @@ unfolding crc32c finalRemainder remainder digest reversed entriesPerPage blockSi
 starred =
     record {
       no_bytes = refl;
-      capacity-at-11 = refl;
-      capacity-at-17 = refl;
-      payload-384 = refl;
-      payload-385 = refl;
-      log2-8 = refl;
-      format-1 = refl;
+      capacity_at_11 = refl;
+      capacity_at_17 = refl;
+      payload_384 = refl;
+      payload_385 = refl;
+      log2_8 = refl;
+      format_1 = refl;
       a_first = refl;
-      b-first = refl;
+      b_first = refl;
       a_second = refl;
-      a-first-judged = refl;
-      b-first-judged = refl;
-      a-second-judged = refl;
+      a_first_judged = refl;
+      b_first_judged = refl;
+      a_second_judged = refl;
       candidate = refl;
-      numbers-4-5 = refl;
-      numbers-5-5 = refl;
-      numbers-4-6 = refl;
-      judged-4-5 = refl;
-      judged-5-5 = refl;
-      judged-4-6 = refl;
-      empty-page = refl;
-      letters-24 = refl;
-      c0-80 = refl;
-      table-end = refl;
-      file-16383 = refl;
+      numbers_4_5 = refl;
+      numbers_5_5 = refl;
+      numbers_4_6 = refl;
+      judged_4_5 = refl;
+      judged_5_5 = refl;
+      judged_4_6 = refl;
+      empty_page = refl;
+      letters_24 = refl;
+      c0_80 = refl;
+      end_16384 = refl;
+      file_16383 = refl;
     }
 
 pub capacities : Capacities

@@ -46,8 +46,8 @@ abbrev pub valid : ℕ → ℕ → SlotPart
 valid generation number =
     record { code = 12; facts = 0; generation = generation; meta_seq = number; header_crc32c = 7; prev_header_crc32c = 0 }
 
-abbrev pub blankSlot : SlotPart
-blankSlot = record { code = 2; facts = 0; generation = 0; meta_seq = 0; header_crc32c = 0; prev_header_crc32c = 0 }
+abbrev pub blank_slot : SlotPart
+blank_slot = record { code = 2; facts = 0; generation = 0; meta_seq = 0; header_crc32c = 0; prev_header_crc32c = 0 }
 
 -- A write after a valid slot of generation 1, its payload torn.
 abbrev pub torn : ℕ → SlotPart
@@ -57,8 +57,8 @@ abbrev pub pair : SlotPart → SlotPart → PairPart
 pair a b = record { a = a; b = b }
 
 -- A volume record with a number, and a page beside a torn write with another one.
-abbrev pub numberedRow : ℕ → ℕ → List PairPart
-numberedRow highest candidate = pair (valid 1 highest) blankSlot ∷ pair (valid 1 1) (torn candidate) ∷ []
+abbrev pub numbered_row : ℕ → ℕ → List PairPart
+numbered_row highest candidate = pair (valid 1 highest) blank_slot ∷ pair (valid 1 1) (torn candidate) ∷ []
 
 -- What the judge answers over a row without a clean mark: the verdicts, and the slot to heal.
 abbrev pub judged : List PairPart → List PairVerdict × Heal
@@ -90,41 +90,41 @@ pub record Starred : Type 0 where
   -- No bytes: checksum 0.
   pub no_bytes : crc32c [] ≡ 0
   -- Page capacity at log2 11 is 41, at 17 is 681.
-  pub capacity-at-11 : entriesPerPage 11 ≡ 41
-  pub capacity-at-17 : entriesPerPage 17 ≡ 681
+  pub capacity_at_11 : entriesPerPage 11 ≡ 41
+  pub capacity_at_17 : entriesPerPage 17 ≡ 681
   -- Slot of 512: payload 384 fits, 385 gives 3.
-  pub payload-384 : encodeRefusal (fields 9 2 1 1) (replicate 384 0) 512 ≡ 0
-  pub payload-385 : encodeRefusal (fields 9 2 1 1) (replicate 385 0) 512 ≡ 3
+  pub payload_384 : encodeRefusal (fields 9 2 1 1) (replicate 384 0) 512 ≡ 0
+  pub payload_385 : encodeRefusal (fields 9 2 1 1) (replicate 385 0) 512 ≡ 3
   -- Log2 8 with generation 0: 1.
-  pub log2-8 : encodeRefusal (fields 8 2 0 1) [] 256 ≡ 1
+  pub log2_8 : encodeRefusal (fields 8 2 0 1) [] 256 ≡ 1
   -- Format 1 with number 1: 5.
-  pub format-1 : encodeRefusal (fields 9 1 1 1) [] 512 ≡ 5
+  pub format_1 : encodeRefusal (fields 9 1 1 1) [] 512 ≡ 5
   -- A generation 1, B Blank: Nothing. B generation 1, A Blank: Damage. A generation 2, B Blank: Damage.
-  pub a_first : oppositeSlot SlotIndex.A (valid 1 1) blankSlot ≡ Opposite.Nothing
-  pub b-first : oppositeSlot SlotIndex.B (valid 1 1) blankSlot ≡ Opposite.Damage
-  pub a_second : oppositeSlot SlotIndex.A (valid 2 1) blankSlot ≡ Opposite.Damage
-  pub a-first-judged : judged (pair (valid 1 1) blankSlot ∷ []) ≡ (winnerBeside SlotIndex.A SlotVerdict.Nothing ∷ [], Heal.Nothing)
-  pub b-first-judged : judged (pair blankSlot (valid 1 1) ∷ []) ≡ (winnerBeside SlotIndex.B SlotVerdict.Damage ∷ [], Heal.Nothing)
-  pub a-second-judged : judged (pair (valid 2 1) blankSlot ∷ []) ≡ (winnerBeside SlotIndex.A SlotVerdict.Damage ∷ [], Heal.Nothing)
+  pub a_first : oppositeSlot SlotIndex.A (valid 1 1) blank_slot ≡ Opposite.Nothing
+  pub b_first : oppositeSlot SlotIndex.B (valid 1 1) blank_slot ≡ Opposite.Damage
+  pub a_second : oppositeSlot SlotIndex.A (valid 2 1) blank_slot ≡ Opposite.Damage
+  pub a_first_judged : judged (pair (valid 1 1) blank_slot ∷ []) ≡ (winnerBeside SlotIndex.A SlotVerdict.Nothing ∷ [], Heal.Nothing)
+  pub b_first_judged : judged (pair blank_slot (valid 1 1) ∷ []) ≡ (winnerBeside SlotIndex.B SlotVerdict.Damage ∷ [], Heal.Nothing)
+  pub a_second_judged : judged (pair (valid 2 1) blank_slot ∷ []) ≡ (winnerBeside SlotIndex.A SlotVerdict.Damage ∷ [], Heal.Nothing)
   -- Numbers 4 and candidate 5: qualifies; 5 and 5, or 4 and 6: not.
   pub candidate : oppositeSlot SlotIndex.A (valid 1 4) (torn 5) ≡ Opposite.Candidate (MetaSeq.Number 5)
-  pub numbers-4-5 : qualifies (valid 1 4 ∷ torn 5 ∷ []) 1 (MetaSeq.Number 5) ≡ true
-  pub numbers-5-5 : qualifies (valid 1 5 ∷ torn 5 ∷ []) 1 (MetaSeq.Number 5) ≡ false
-  pub numbers-4-6 : qualifies (valid 1 4 ∷ torn 6 ∷ []) 1 (MetaSeq.Number 6) ≡ false
-  pub judged-4-5 : judged (numberedRow 4 5)
+  pub numbers_4_5 : qualifies (valid 1 4 ∷ torn 5 ∷ []) 1 (MetaSeq.Number 5) ≡ true
+  pub numbers_5_5 : qualifies (valid 1 5 ∷ torn 5 ∷ []) 1 (MetaSeq.Number 5) ≡ false
+  pub numbers_4_6 : qualifies (valid 1 4 ∷ torn 6 ∷ []) 1 (MetaSeq.Number 6) ≡ false
+  pub judged_4_5 : judged (numbered_row 4 5)
       ≡ (winnerBeside SlotIndex.A SlotVerdict.Nothing ∷ winnerBeside SlotIndex.A SlotVerdict.InFlight ∷ [], Heal.Slot 1 SlotIndex.B)
-  pub judged-5-5 : judged (numberedRow 5 5)
+  pub judged_5_5 : judged (numbered_row 5 5)
       ≡ (winnerBeside SlotIndex.A SlotVerdict.Nothing ∷ winnerBeside SlotIndex.A SlotVerdict.Damage ∷ [], Heal.Nothing)
-  pub judged-4-6 : judged (numberedRow 4 6)
+  pub judged_4_6 : judged (numbered_row 4 6)
       ≡ (winnerBeside SlotIndex.A SlotVerdict.Nothing ∷ winnerBeside SlotIndex.A SlotVerdict.Damage ∷ [], Heal.Nothing)
   -- 24 zero bytes as page 0: accepted.
-  pub empty-page : decodePage (replicate 24 0) 0 41 ≡ given (page (record { page_index = 0; next_seq = 0; count = 0 }))
+  pub empty_page : decodePage (replicate 24 0) 0 41 ≡ given (page (record { page_index = 0; next_seq = 0; count = 0 }))
   -- Name of 24 letters: accepted; C0 80 (hexadecimal): 35.
-  pub letters-24 : named (replicate 24 0x61) ≡ given (record { bytes = replicate 24 0x61; len = 24 })
-  pub c0-80 : named (0xC0 ∷ 0x80 ∷ []) ≡ refusal 35
+  pub letters_24 : named (replicate 24 0x61) ≡ given (record { bytes = replicate 24 0x61; len = 24 })
+  pub c0_80 : named (0xC0 ∷ 0x80 ∷ []) ≡ refusal 35
   -- Both log2 12, one page: end 16,384; file of 16,383: 26.
-  pub table-end : table_end volume ≡ given 16384
-  pub file-16383 : fileCheck volume 16383 ≡ refusal 26
+  pub end_16384 : table_end volume ≡ given 16384
+  pub file_16383 : fileCheck volume 16383 ≡ refusal 26
 
 -- Entries per page for log2 12 to 16 (docs/FORMAT.md, "The volume record").
 abbrev pub Capacities : Type 0

@@ -1,6 +1,6 @@
 -- The theorem is proved in Theorem.antt.
-use Rattle.cut.proofs.Theorem.{cut-theorem}
+use Rattle.cut.proofs.Theorem.{cut_theorem}
 use Rattle.cut.proofs.cut_theorem.Goals as goal
 
 pub returns : goal.returns
-returns c = cut-theorem
+returns c = cut_theorem

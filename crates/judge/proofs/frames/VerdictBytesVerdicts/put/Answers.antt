@@ -1,14 +1,10 @@
--- Four bytes a verdict, within the list.
-use Rattle.std.proofs.Common.{arith}
-use Rattle.std.proofs.lemmas.List.{length-set}
-use Rattle.judge.proofs.CellLaws.{length_cells}
+-- The bytes of one verdict are written.
+use Rattle.std.proofs.Common.{◌≡◌, ◌+◌, ◌-◌, ◌*◌, arith}
+use Rattle.judge.proofs.CellLaws.{cells_put}
 use Rattle.judge.proofs.frames.VerdictBytesVerdicts.put.Goals as goal
 
-pub bounds-self-at-2 : goal.bounds-self-at-2
-bounds-self-at-2 c = simp length-set (omega (arith, length_cells c.args.self.now.0.now))
-
-pub bounds-self-at-3 : goal.bounds-self-at-3
-bounds-self-at-3 c = simp length-set (omega (arith, length_cells c.args.self.now.0.now))
-
-pub bounds-self-at-4 : goal.bounds-self-at-4
-bounds-self-at-4 c = simp length-set (omega (arith, length_cells c.args.self.now.0.now))
+pub returns-clause-cells : goal.returns-clause-cells
+returns-clause-cells c =
+    let a = c.args in
+    let four : a.i * 4 + 4 - a.i * 4 ≡ 4 = omega arith in
+    rw (four, c.copy_from_slice.ensures.after, c.bytes.ensures) (cells_put a.self.now.0.now a.i a.v c.requires)

@@ -1,0 +1,577 @@
+-- What specs/Writes.antt says of the stores and the writes. The slots are what `encode` writes; the checksums are computed.
+use Rattle.std.proofs.Common.{◌≡◌, refl, sym, ap, subst, ◌∙◌, inl, inr, Bool, true, false, cond, not, List, [], ◌∷◌, ◌++◌, ℕ, ◌+◌, ◌-◌, ◌*◌, ◌^◌, ◌≤◌, ◌<◌, max, arith, leb-true, eqb-true, eq-eqb, leb, eqb, lit≤, lit<, length, get_or, take, replicate}
+use borrow.Author.Tests.{not-true}
+use Rattle.codec.specs.Bytes.{AllBytes, le, le16, le32, bytes, same}
+use Rattle.codec.specs.Crc32c.{crc32c, finalRemainder, remainder, digest, reversed}
+use Rattle.codec.proofs.CursorLaws.{append-bytes, zero-bytes, bytes-tested}
+use Rattle.codec.proofs.FieldLaws.{row-bytes}
+use Rattle.codec.proofs.RunLaws.{same_true}
+use Rattle.slot.specs.Status.{indexNumber, other}
+use Rattle.slot.specs.Read.{headerSum, lengthOk, numberOk, payload as payload_of, validate}
+use Rattle.slot.specs.Write.{frontBytes, identityBytes, historyBytes, headerBytes, headerCrc, writtenHeader, slotBytes, encodeRefusal, encodedBytes}
+use Rattle.slot.specs.declared.slot.SlotIndex.{SlotIndex}
+use Rattle.slot.specs.declared.slot.SlotFields.{SlotFields}
+use Rattle.slot.specs.declared.slot.SlotInfo.{SlotInfo}
+use Rattle.slot.specs.declared.slot.SlotStatus.{SlotStatus}
+use Rattle.slot.specs.declared.slot.Expect.{Expect}
+use Rattle.encode.proofs.EncodeLaws.{Fits, infoOf}
+use Rattle.encode.proofs.RoundTrip.{written, encode-valid, encode-payload}
+use Rattle.pair.specs.Pair.{winnerInfo}
+use Rattle.pair.specs.declared.pair.WinnerInfo.{WinnerInfo}
+use Rattle.candidate.specs.Numbers.{slots, highest}
+use Rattle.region.specs.Block.{clamp, blockSize, entriesPerPage}
+use Rattle.volume_base.specs.Base.{baseCheck, decodeBase, baseBytes}
+use Rattle.volume_tail.specs.Tail.{tail_bytes}
+use Rattle.volume.specs.Volume.{tailCheck, decodeVolume, volumeBytes}
+use Rattle.page.specs.Read.{decodePage}
+use Rattle.page_write.specs.Write.{headerBytes as page_header_bytes}
+use Rattle.page_write.proofs.PageLaws.{headerRow as page_header_row}
+use Rattle.cut.specs.Store.{Every, Decoder, Volume, Page, accepts, clean_mark, Pair, slot_at, status, report, parts, store_mark, Typed, SoundSlot, Beside, SoundPair, Sound}
+use Rattle.cut.specs.Cut.{Write, store, size, old, new, cut, CutPoint, CorrectWrite, stands_whole, whole, payload_in, Accident, handed}
+use Rattle.cut_examples.specs.Stores.{volume_record, page_record, rest, fields, read_with, written_slot, blank_slot, volume_fields, volume_pair, older_fields, newer_fields, first_page, second_fields, second_page, new_fields, later_page, first_store, later_store}
+use Rattle.cut_examples.specs.Writes.{IsMet, StoresSound, MetIsEnough, write_to, page_write, marked_fields, volume_write, next_fields, second_write, later_fields, later_write, PageMet, VolumeMet, SecondMet, LaterMet, StandsWhole, MarkHanded}
+use Rattle.cut.proofs.ByteLaws.{slot_bytes}
+use Rattle.cut.proofs.StatusLaws.{false_true}
+use Rattle.cut.proofs.PairLaws.{valid_number, blank_number, sound_won}
+use Rattle.cut.proofs.CutLaws.{differ, failed_sum, failed_payload}
+use Rattle.cut.proofs.StatementLaws.{unmarked_store, torn_handed, whole_handed}
+use Rattle.cut.proofs.Theorem.{cut_theorem}
+
+-- ---- slots of 512 bytes
+
+index_offset : (object : ℕ) (index : SlotIndex) → object ≤ 2 → 1024 * object + 512 * indexNumber index < 2 ^ 64
+index_offset object SlotIndex.A small = omega arith
+index_offset object SlotIndex.B small = omega arith
+
+-- What is known of a slot that `encode` wrote, in a pair with a decoder.
+record Known (f : SlotFields) (payload : List ℕ) (decoder : Decoder) : Type 0 where
+  pub slot : SoundSlot (written_slot f payload)
+  pub valid : status (written_slot f payload) ≡ SlotStatus.Valid (infoOf f payload)
+  pub record_is : payload_of (infoOf f payload) (written_slot f payload).bytes ≡ payload
+  pub accepted : accepts decoder (payload_of (infoOf f payload) (written_slot f payload).bytes) ≡ true
+
+module _ (object : ℕ) (index : SlotIndex) (generation prev number : ℕ) (object_small : object ≤ 2) where
+  abbrev f : SlotFields
+  f = fields object index generation prev number
+
+  typed_with : (bytes : List ℕ) → AllBytes bytes → Typed (record { bytes = bytes; expect = read_with f; rest = rest })
+  typed_with bytes all =
+      record {
+        bytes = all;
+        volume = refl;
+        volume_bytes = bytes-tested (replicate 16 7) refl;
+        object = omega arith;
+        offset = index_offset object index object_small;
+        generation = lit< tt;
+        number = lit< tt;
+        own = lit< tt;
+        prev = lit< tt;
+      }
+
+  module _ (generation_fits : generation < 2 ^ 64) (prev_fits : prev < 2 ^ 32) (number_fits : number < 2 ^ 64) where
+    fields_fit : Fits f
+    fields_fit =
+        record {
+          volume = refl;
+          object = omega arith;
+          generation = generation_fits;
+          owner = lit< tt;
+          offset = index_offset object index object_small;
+          log2 = lit< tt;
+          prev = prev_fits;
+          format = lit< tt;
+          number = number_fits;
+          compat = lit< tt;
+        }
+
+    module _ (payload : List ℕ) (all : AllBytes payload) (none : encodeRefusal f payload 512 ≡ 0) (number_ok : numberOk 2 true number ≡ true) where
+      written_known : (decoder : Decoder) → accepts decoder payload ≡ true → Known f payload decoder
+      written_known decoder takes =
+          record {
+            slot =
+                record {
+                  typed =
+                      typed_with (encodedBytes f payload (replicate 512 0))
+                      (subst AllBytes (sym (written f payload (replicate 512 0) none fields_fit true number_ok))
+                      (slot_bytes f payload (bytes-tested (replicate 16 7) refl) all));
+                  format = refl;
+                  numbered = refl;
+                };
+            valid = encode-valid f payload (replicate 512 0) none fields_fit true number_ok;
+            record_is = encode-payload f payload (replicate 512 0) none fields_fit true number_ok;
+            accepted = ap (accepts decoder) (encode-payload f payload (replicate 512 0) none fields_fit true number_ok) ∙ takes;
+          }
+
+blank_sound : (object : ℕ) (index : SlotIndex) → object ≤ 2 → SoundSlot (blank_slot object index)
+blank_sound object index small =
+    record {
+      typed =
+          typed_with object index 0 0 0 small (replicate 128 0 ++ replicate 384 9)
+          (append-bytes (replicate 128 0) (replicate 384 9) (zero-bytes 128) (bytes-tested (replicate 384 9) refl));
+      format = refl;
+      numbered = refl;
+    }
+
+blank_status : (object : ℕ) (index : SlotIndex) → status (blank_slot object index) ≡ SlotStatus.Blank
+unfolding validate lengthOk
+blank_status object index = refl
+
+-- ---- records
+
+volume_bytes : AllBytes (volume_record false) × AllBytes (volume_record true)
+unfolding volumeBytes baseBytes tail_bytes bytes
+volume_bytes = (bytes-tested (volume_record false) refl, bytes-tested (volume_record true) refl)
+
+pub volume_accepted : (accepts Volume (volume_record false) ≡ true) × (accepts Volume (volume_record true) ≡ true)
+    × (clean_mark (volume_record true) ≡ true)
+unfolding volumeBytes baseBytes tail_bytes bytes decodeVolume decodeBase baseCheck tailCheck entriesPerPage blockSize clamp le
+volume_accepted = (refl, refl, refl)
+
+page_bytes : (index next : ℕ) → AllBytes (page_record index next)
+unfolding page_header_bytes
+page_bytes index next =
+    row-bytes (page_header_row (record { page_index = index; next_seq = next; count = 0 })) [] (zero-bytes 0) (zero-bytes 14, tt)
+
+page_fits : (index next : ℕ) → 128 + length (page_record index next) ≤ 512
+unfolding page_header_bytes bytes
+page_fits index next = lit≤ tt
+
+pub page_accepted : (accepts (Page 0 41) (page_record 0 1) ≡ true) × (accepts (Page 0 41) (page_record 0 2) ≡ true)
+    × (accepts (Page 0 41) (page_record 0 0x304) ≡ true) × (accepts (Page 0 41) (page_record 0 0x21b9_61ac) ≡ true)
+    × (accepts (Page 1 41) (page_record 1 0) ≡ true) × (accepts (Page 1 41) (page_record 1 1) ≡ true)
+unfolding page_header_bytes bytes decodePage le
+page_accepted = (refl, refl, refl, refl, refl, refl)
+
+-- ---- the store
+
+-- The checksums of the first page's headers and payloads.
+older_sums : (headerCrc older_fields (page_record 0 1) ≡ 0x588e_9174) × (crc32c (page_record 0 1) ≡ 0xb3b8_1b53)
+unfolding headerCrc headerBytes frontBytes identityBytes historyBytes page_header_bytes bytes crc32c finalRemainder remainder digest reversed
+older_sums = (refl, refl)
+
+newer_sums : (headerCrc newer_fields (page_record 0 2) ≡ 0xe83c_e718) × (crc32c (page_record 0 2) ≡ 0xea7c_0394)
+unfolding headerCrc headerBytes frontBytes identityBytes historyBytes page_header_bytes bytes crc32c finalRemainder remainder digest reversed
+newer_sums = (refl, refl)
+
+-- `encode` refuses none of the slots.
+pub none_refused : (encodeRefusal volume_fields (volume_record false) 512 ≡ 0) × (encodeRefusal older_fields (page_record 0 1) 512 ≡ 0)
+    × (encodeRefusal newer_fields (page_record 0 2) 512 ≡ 0) × (encodeRefusal second_fields (page_record 1 0) 512 ≡ 0)
+unfolding encodeRefusal volumeBytes baseBytes tail_bytes page_header_bytes bytes
+none_refused = (refl, refl, refl, refl)
+
+numbers_ok : (numberOk 2 true 1 ≡ true) × (numberOk 2 true 2 ≡ true) × (numberOk 2 true 3 ≡ true) × (numberOk 2 true 4 ≡ true)
+unfolding numberOk
+numbers_ok = (refl, refl, refl, refl)
+
+volume_known : Known volume_fields (volume_record false) Volume
+volume_known =
+    written_known 0 SlotIndex.A 1 0 1 (lit≤ tt) (lit< tt) (lit< tt) (lit< tt) (volume_record false) volume_bytes.0 none_refused.0 numbers_ok.0 Volume
+    volume_accepted.0
+
+older_known : Known older_fields (page_record 0 1) (Page 0 41)
+older_known =
+    written_known 1 SlotIndex.A 1 0 2 (lit≤ tt) (lit< tt) (lit< tt) (lit< tt) (page_record 0 1) (page_bytes 0 1) none_refused.1 numbers_ok.1
+    (Page 0 41) page_accepted.0
+
+newer_known : Known newer_fields (page_record 0 2) (Page 0 41)
+newer_known =
+    written_known 1 SlotIndex.B 2 0x588e_9174 4 (lit≤ tt) (lit< tt) (lit< tt) (lit< tt) (page_record 0 2) (page_bytes 0 2) none_refused.2
+    numbers_ok.3 (Page 0 41) page_accepted.1
+
+second_known : Known second_fields (page_record 1 0) (Page 1 41)
+second_known =
+    written_known 2 SlotIndex.A 1 0 3 (lit≤ tt) (lit< tt) (lit< tt) (lit< tt) (page_record 1 0) (page_bytes 1 0) none_refused.3 numbers_ok.2
+    (Page 1 41) page_accepted.4
+
+-- A of generation 1, B Blank.
+first_written : (object number : ℕ) (payload : List ℕ) (decoder : Decoder) → object ≤ 2 → Known (fields object SlotIndex.A 1 0 number) payload decoder
+    → SoundPair (record { a = written_slot (fields object SlotIndex.A 1 0 number) payload; b = blank_slot object SlotIndex.B; decoder = decoder })
+first_written object number payload decoder small known =
+    record {
+      slots = elim [ SlotIndex.A ↦ known.slot | SlotIndex.B ↦ blank_sound object SlotIndex.B small ];
+      newer = SlotIndex.A;
+      info = infoOf (fields object SlotIndex.A 1 0 number) payload;
+      valid = known.valid;
+      accepted = known.accepted;
+      beside = Beside.first refl refl (blank_status object SlotIndex.B);
+    }
+
+unfoldable volume_sound : SoundPair volume_pair
+unfolding first_written
+volume_sound = first_written 0 1 (volume_record false) Volume (lit≤ tt) volume_known
+
+unfoldable first_sound : SoundPair first_page
+first_sound =
+    record {
+      slots = elim [ SlotIndex.A ↦ older_known.slot | SlotIndex.B ↦ newer_known.slot ];
+      newer = SlotIndex.B;
+      info = infoOf newer_fields (page_record 0 2);
+      valid = newer_known.valid;
+      accepted = newer_known.accepted;
+      beside =
+          Beside.both (infoOf older_fields (page_record 0 1)) older_known.valid refl (lit< tt) (sym older_sums.0) older_known.accepted;
+    }
+
+unfoldable second_sound : SoundPair second_page
+unfolding first_written
+second_sound = first_written 2 3 (page_record 1 0) (Page 1 41) (lit≤ tt) second_known
+
+-- The store with a page as its pair 1.
+abbrev store_with : Pair → List Pair
+store_with p = volume_pair ∷ p ∷ second_page ∷ []
+
+sound_with : (p : Pair) → p.decoder ≡ Page 0 41 → SoundPair p → Sound (store_with p)
+sound_with p page sound =
+    Sound.row refl
+    (Every.more (record { index = 0; most = 41; decoder = page }) (Every.more (record { index = 1; most = 41; decoder = refl }) Every.none))
+    (Every.more volume_sound (Every.more sound (Every.more second_sound Every.none)))
+
+unmarked_with : (p : Pair) → store_mark (store_with p) ≡ false
+unfolding volume_sound first_written volumeBytes baseBytes tail_bytes bytes
+unmarked_with p = unmarked_store volume_pair (p ∷ second_page ∷ []) volume_sound (ap (λ (r : List ℕ). get_or r 54 0) volume_known.record_is)
+
+highest_with : (p : Pair) (i j : SlotInfo) → status p.a ≡ SlotStatus.Valid i → status p.b ≡ SlotStatus.Valid j
+    → highest (slots (parts (store_with p))) ≡ max 1 (max 0 (max i.meta_seq (max j.meta_seq 3)))
+highest_with p i j valid_a valid_b =
+    simp (
+      valid_number volume_pair SlotIndex.A (infoOf volume_fields (volume_record false)) volume_known.valid,
+      blank_number volume_pair SlotIndex.B (blank_status 0 SlotIndex.B),
+      valid_number p SlotIndex.A i valid_a,
+      valid_number p SlotIndex.B j valid_b,
+      valid_number second_page SlotIndex.A (infoOf second_fields (page_record 1 0)) second_known.valid,
+      blank_number second_page SlotIndex.B (blank_status 2 SlotIndex.B),
+    )
+
+sound : Sound first_store
+sound = sound_with first_page refl first_sound
+
+highest_number : highest (slots (parts first_store)) ≡ 4
+highest_number =
+    highest_with first_page (infoOf older_fields (page_record 0 1)) (infoOf newer_fields (page_record 0 2)) older_known.valid newer_known.valid
+
+-- ---- no accident
+
+-- That there is none, as a test.
+abbrev safe : List ℕ → List ℕ → List ℕ → List ℕ → Bool
+safe s before after payload =
+    cond (same (take 128 s) (take 128 after))
+    (cond (same (payload_in s payload) payload) true (not (eqb (crc32c (payload_in s payload)) (le32 s 28))))
+    (cond (same (take 128 s) (take 128 before)) true (not (eqb (headerSum s (le16 s 12)) (le32 s 8))))
+
+safe_none : (s before after payload : List ℕ) → safe s before after payload ≡ true → Accident s before after payload → ⊥
+safe_none s before after payload =
+    go (same (take 128 s) (take 128 after)) refl (same (payload_in s payload) payload) refl (same (take 128 s) (take 128 before)) refl
+  where
+    go : (x : Bool) → same (take 128 s) (take 128 after) ≡ x → (y : Bool) → same (payload_in s payload) payload ≡ y
+        → (z : Bool) → same (take 128 s) (take 128 before) ≡ z
+        → cond x (cond y true (not (eqb (crc32c (payload_in s payload)) (le32 s 28))))
+        (cond z true (not (eqb (headerSum s (le16 s 12)) (le32 s 8)))) ≡ true
+        → Accident s before after payload → ⊥
+    go true is_new true same_payload z is_old test (Accident.header passes not_old not_new) =
+        not_new (same_true (take 128 s) (take 128 after) is_new)
+    go true is_new true same_payload z is_old test (Accident.payload header other passes) = other (same_true (payload_in s payload) payload same_payload)
+    go true is_new false same_payload z is_old test accident =
+        failed_payload s before after payload (same_true (take 128 s) (take 128 after) is_new)
+        (λ stored. false_true {A = ⊥} (not-true _ test) (eq-eqb _ _ stored)) accident
+    go false is_new y same_payload true is_old test (Accident.header passes not_old not_new) =
+        not_old (same_true (take 128 s) (take 128 before) is_old)
+    go false is_new y same_payload true is_old test (Accident.payload header other passes) = differ (take 128 s) (take 128 after) is_new header
+    go false is_new y same_payload false is_old test accident =
+        failed_sum s before after payload (differ (take 128 s) (take 128 after) is_new)
+        (λ stored. false_true {A = ⊥} (not-true _ test) (eq-eqb _ _ stored)) accident
+
+-- The tests of a cut: k is 0 or from 8 to the slot's size, and there is no accident.
+abbrev point_test : ℕ → Bool
+point_test k = cond (eqb k 0) true (cond (leb 8 k) (leb k 512) false)
+
+abbrev cut_tests : ℕ → List ℕ → List ℕ → List ℕ → Bool
+cut_tests k after before payload = cond (point_test k) (safe (cut k after before) before after payload) false
+
+point : (k : ℕ) → point_test k ≡ true → CutPoint k 512
+point k = go (eqb k 0) refl (leb 8 k) refl
+  where
+    go : (none : Bool) → eqb k 0 ≡ none → (from_8 : Bool) → leb 8 k ≡ from_8 → cond none true (cond from_8 (leb k 512) false) ≡ true → CutPoint k 512
+    go true none from_8 from test = inl (eqb-true k 0 none)
+    go false none true from test = inr (leb-true 8 k from, leb-true k 512 test)
+    go false none false from test = false_true refl test
+
+module _ (w : Write) (sound_store : Sound (store w)) (no_mark : store_mark (store w) ≡ false) (right : CorrectWrite w) (small : size w ≡ 512)
+    (before after : List ℕ) (old_is : old w ≡ before) (new_is : new w ≡ after) where
+  -- Of a correct write to a sound store with no mark the tests are all that is left.
+  met_by : cut_tests w.k after before w.payload ≡ true → IsMet w
+  met_by tests = go (point_test w.k) refl tests
+    where
+      go : (in_range : Bool) → point_test w.k ≡ in_range → cond in_range (safe (cut w.k after before) before after w.payload) false ≡ true → IsMet w
+      go false is test = false_true refl test
+      go true is test =
+          record {
+            sound = sound_store;
+            unmarked = no_mark;
+            correct = right;
+            point = rw small (point w.k is);
+            none = rw (new_is, old_is) (safe_none (cut w.k after before) before after w.payload test);
+          }
+
+-- ---- writes
+
+-- The identity is that of the slot, and the number is one above the highest n of the store.
+module _ (before : List Pair) (p : Pair) (behind : List Pair) {n : ℕ} (highest_is : highest (slots (parts (before ++ p ∷ behind))) ≡ n)
+    (f : SlotFields) (fits : Fits f) (format : f.format_major ≡ 2) (log2 : f.log2_slot_size ≡ 9) (number : f.meta_seq ≡ n + 1)
+    (asked : read_with f ≡ (slot_at f.slot_index p).expect) where
+  write_correct : (i : SlotInfo) → winnerInfo (report p) ≡ WinnerInfo.Won (other f.slot_index) i
+      → f.generation ≡ i.generation + 1 → f.prev_header_crc32c ≡ i.header_crc32c
+      → (payload : List ℕ) → AllBytes payload → accepts p.decoder payload ≡ true → 128 + length payload ≤ 512
+      → (k : ℕ) → CorrectWrite (write_to before p behind f payload k)
+  write_correct i won generation prev payload payload_bytes accepted room k =
+      record {
+        winner = i;
+        won = won;
+        format = format;
+        volume = ap (λ (e : Expect). e.volume_uuid) asked;
+        object = ap (λ (e : Expect). e.object_id) asked;
+        offset = ap (λ (e : Expect). e.slot_offset) asked;
+        index = ap (λ (e : Expect). e.slot_index) asked;
+        log2 = ap (λ (e : Expect). e.log2_slot_size) asked;
+        generation = generation;
+        generation_fits = fits.generation;
+        prev = prev;
+        number = number ∙ sym (ap (λ (m : ℕ). m + 1) highest_is);
+        number_fits = fits.number;
+        owner = fits.owner;
+        compat = fits.compat;
+        bytes = payload_bytes;
+        accepted = accepted;
+        fits = rw log2 room;
+        room = rw log2 refl;
+      }
+
+-- A slot with its checksums as numbers.
+abbrev pub summed_slot : ℕ → ℕ → SlotFields → List ℕ → List ℕ
+summed_slot crc payload_crc f payload = headerBytes crc f (length payload) payload_crc ++ payload ++ replicate (512 - (128 + length payload)) 0
+
+pub summed_is : (object : ℕ) (index : SlotIndex) (generation prev number : ℕ) (payload : List ℕ) (crc payload_crc : ℕ)
+    → encodeRefusal (fields object index generation prev number) payload 512 ≡ 0
+    → headerCrc (fields object index generation prev number) payload ≡ crc → crc32c payload ≡ payload_crc
+    → encodedBytes (fields object index generation prev number) payload (replicate 512 0)
+    ≡ summed_slot crc payload_crc (fields object index generation prev number) payload
+unfolding encodedBytes slotBytes writtenHeader
+summed_is object index generation prev number payload crc payload_crc none sum payload_sum = simp (none, sum, payload_sum)
+
+-- ---- a write to a page
+
+page_correct : (k : ℕ) → CorrectWrite (page_write k)
+unfolding first_sound
+page_correct =
+    write_correct (volume_pair ∷ []) first_page (second_page ∷ []) highest_number new_fields
+    (fields_fit 1 SlotIndex.A 3 0xe83c_e718 5 (lit≤ tt) (lit< tt) (lit< tt) (lit< tt)) refl refl refl refl
+    (infoOf newer_fields (page_record 0 2)) (sound_won first_page first_sound) refl (sym newer_sums.0) (page_record 0 0x304) (page_bytes 0 0x304)
+    page_accepted.2
+    (page_fits 0 0x304)
+
+new_sums : (headerCrc new_fields (page_record 0 0x304) ≡ 0xd61e_00d0) × (crc32c (page_record 0 0x304) ≡ 0x9755_91c2)
+unfolding headerCrc headerBytes frontBytes identityBytes historyBytes page_header_bytes bytes crc32c finalRemainder remainder digest reversed
+new_sums = (refl, refl)
+
+new_refusal : encodeRefusal new_fields (page_record 0 0x304) 512 ≡ 0
+unfolding encodeRefusal page_header_bytes bytes
+new_refusal = refl
+
+abbrev pub old_page : List ℕ
+old_page = summed_slot 0x588e_9174 0xb3b8_1b53 older_fields (page_record 0 1)
+
+abbrev pub new_page : List ℕ
+new_page = summed_slot 0xd61e_00d0 0x9755_91c2 new_fields (page_record 0 0x304)
+
+pub old_page_is : encodedBytes older_fields (page_record 0 1) (replicate 512 0) ≡ old_page
+old_page_is = summed_is 1 SlotIndex.A 1 0 2 (page_record 0 1) 0x588e_9174 0xb3b8_1b53 none_refused.1 older_sums.0 older_sums.1
+
+pub new_page_is : encodedBytes new_fields (page_record 0 0x304) (replicate 512 0) ≡ new_page
+new_page_is = summed_is 1 SlotIndex.A 3 0xe83c_e718 5 (page_record 0 0x304) 0xd61e_00d0 0x9755_91c2 new_refusal new_sums.0 new_sums.1
+
+page_met : (k : ℕ) → cut_tests k new_page old_page (page_record 0 0x304) ≡ true → IsMet (page_write k)
+page_met k = met_by (page_write k) sound (unmarked_with first_page) (page_correct k) refl old_page new_page old_page_is new_page_is
+
+pub page_cuts : PageMet
+unfolding cut headerSum headerBytes frontBytes identityBytes historyBytes page_header_bytes bytes le crc32c finalRemainder remainder digest reversed
+page_cuts =
+    Every.more (page_met 0 refl)
+    (Every.more (page_met 8 refl)
+    (Every.more (page_met 11 refl)
+    (Every.more (page_met 64 refl)
+    (Every.more (page_met 127 refl)
+    (Every.more (page_met 128 refl)
+    (Every.more (page_met 133 refl) (Every.more (page_met 134 refl) (Every.more (page_met 512 refl) Every.none))))))))
+
+pub page_whole : StandsWhole
+unfolding stands_whole cut headerBytes frontBytes identityBytes historyBytes page_header_bytes bytes
+page_whole = (whole_at 133, whole_at 134)
+  where
+    whole_at : (k : ℕ) → whole (page_write k) ≡ stands_whole (cut k new_page old_page) new_page (page_record 0 0x304)
+    whole_at k = rw (new_page_is, old_page_is)
+
+-- ---- a write to the volume record, with its clean mark set
+
+volume_length : length (volume_record true) ≡ 64
+unfolding volumeBytes baseBytes tail_bytes bytes
+volume_length = refl
+
+pub volume_sum : headerCrc volume_fields (volume_record false) ≡ 0x1d15_7c74
+unfolding headerCrc headerBytes frontBytes identityBytes historyBytes volumeBytes baseBytes tail_bytes bytes crc32c finalRemainder remainder digest reversed
+volume_sum = refl
+
+volume_correct : (k : ℕ) → CorrectWrite (volume_write k)
+unfolding volume_sound first_written
+volume_correct =
+    write_correct [] volume_pair (first_page ∷ second_page ∷ []) highest_number marked_fields
+    (fields_fit 0 SlotIndex.B 2 0x1d15_7c74 5 (lit≤ tt) (lit< tt) (lit< tt) (lit< tt)) refl refl refl refl
+    (infoOf volume_fields (volume_record false)) (sound_won volume_pair volume_sound) refl (sym volume_sum) (volume_record true) volume_bytes.1
+    volume_accepted.1
+    (rw volume_length (lit≤ tt))
+
+marked_sums : (headerCrc marked_fields (volume_record true) ≡ 0x880c_0bb0) × (crc32c (volume_record true) ≡ 0xa2bd_3d49)
+unfolding headerCrc headerBytes frontBytes identityBytes historyBytes volumeBytes baseBytes tail_bytes bytes crc32c finalRemainder remainder digest reversed
+marked_sums = (refl, refl)
+
+marked_refusal : encodeRefusal marked_fields (volume_record true) 512 ≡ 0
+unfolding encodeRefusal volumeBytes baseBytes tail_bytes bytes
+marked_refusal = refl
+
+abbrev pub blank_bytes : List ℕ
+blank_bytes = (blank_slot 0 SlotIndex.B).bytes
+
+abbrev pub marked_bytes : List ℕ
+marked_bytes = summed_slot 0x880c_0bb0 0xa2bd_3d49 marked_fields (volume_record true)
+
+pub marked_bytes_is : encodedBytes marked_fields (volume_record true) (replicate 512 0) ≡ marked_bytes
+marked_bytes_is = summed_is 0 SlotIndex.B 2 0x1d15_7c74 5 (volume_record true) 0x880c_0bb0 0xa2bd_3d49 marked_refusal marked_sums.0 marked_sums.1
+
+volume_met : (k : ℕ) → cut_tests k marked_bytes blank_bytes (volume_record true) ≡ true → IsMet (volume_write k)
+volume_met k = met_by (volume_write k) sound (unmarked_with first_page) (volume_correct k) refl blank_bytes marked_bytes refl marked_bytes_is
+
+pub volume_cuts : VolumeMet
+unfolding cut headerSum headerBytes frontBytes identityBytes historyBytes volumeBytes baseBytes tail_bytes bytes le crc32c finalRemainder remainder digest reversed
+volume_cuts =
+    Every.more (volume_met 0 refl)
+    (Every.more (volume_met 8 refl)
+    (Every.more (volume_met 11 refl)
+    (Every.more (volume_met 64 refl)
+    (Every.more (volume_met 128 refl) (Every.more (volume_met 191 refl) (Every.more (volume_met 192 refl) Every.none))))))
+
+-- The judge is handed the new record's mark once that record stands whole.
+pub volume_handed : (k : ℕ) → handed (volume_write k)
+    ≡ cond (stands_whole (cut k marked_bytes blank_bytes) marked_bytes (volume_record true)) (clean_mark (volume_record true)) false
+unfolding handed
+volume_handed k = rw marked_bytes_is
+
+pub volume_marks : MarkHanded
+unfolding stands_whole cut headerBytes frontBytes identityBytes historyBytes volumeBytes baseBytes tail_bytes bytes
+volume_marks = (torn_handed (volume_write 191) (whole_at 191), whole_handed (volume_write 192) refl (whole_at 192) ∙ volume_accepted.2)
+  where
+    whole_at : (k : ℕ) → whole (volume_write k) ≡ stands_whole (cut k marked_bytes blank_bytes) marked_bytes (volume_record true)
+    whole_at k = rw marked_bytes_is
+
+-- ---- a write of a page over a Blank slot
+
+pub second_sum : headerCrc second_fields (page_record 1 0) ≡ 0x2c8c_2a3c
+unfolding headerCrc headerBytes frontBytes identityBytes historyBytes page_header_bytes bytes crc32c finalRemainder remainder digest reversed
+second_sum = refl
+
+next_sums : (headerCrc next_fields (page_record 1 1) ≡ 0x24b0_a7e6) × (crc32c (page_record 1 1) ≡ 0x09f7_d9dd)
+unfolding headerCrc headerBytes frontBytes identityBytes historyBytes page_header_bytes bytes crc32c finalRemainder remainder digest reversed
+next_sums = (refl, refl)
+
+next_refusal : encodeRefusal next_fields (page_record 1 1) 512 ≡ 0
+unfolding encodeRefusal page_header_bytes bytes
+next_refusal = refl
+
+second_correct : (k : ℕ) → CorrectWrite (second_write k)
+unfolding second_sound first_written
+second_correct =
+    write_correct (volume_pair ∷ first_page ∷ []) second_page [] highest_number next_fields
+    (fields_fit 2 SlotIndex.B 2 0x2c8c_2a3c 5 (lit≤ tt) (lit< tt) (lit< tt) (lit< tt)) refl refl refl refl
+    (infoOf second_fields (page_record 1 0)) (sound_won second_page second_sound) refl (sym second_sum) (page_record 1 1) (page_bytes 1 1)
+    page_accepted.5
+    (page_fits 1 1)
+
+abbrev pub next_page : List ℕ
+next_page = summed_slot 0x24b0_a7e6 0x09f7_d9dd next_fields (page_record 1 1)
+
+pub next_page_is : encodedBytes next_fields (page_record 1 1) (replicate 512 0) ≡ next_page
+next_page_is = summed_is 2 SlotIndex.B 2 0x2c8c_2a3c 5 (page_record 1 1) 0x24b0_a7e6 0x09f7_d9dd next_refusal next_sums.0 next_sums.1
+
+pub second_cut : SecondMet
+unfolding cut headerSum headerBytes frontBytes identityBytes historyBytes page_header_bytes bytes le crc32c finalRemainder remainder digest reversed
+second_cut =
+    met_by (second_write 140) sound (unmarked_with first_page) (second_correct 140) refl blank_bytes next_page refl next_page_is refl
+
+-- ---- a write over an older slot B
+
+new_known : Known new_fields (page_record 0 0x304) (Page 0 41)
+unfolding numberOk
+new_known =
+    written_known 1 SlotIndex.A 3 0xe83c_e718 5 (lit≤ tt) (lit< tt) (lit< tt) (lit< tt) (page_record 0 0x304) (page_bytes 0 0x304) new_refusal refl
+    (Page 0 41) page_accepted.2
+
+unfoldable later_sound : SoundPair later_page
+later_sound =
+    record {
+      slots = elim [ SlotIndex.A ↦ new_known.slot | SlotIndex.B ↦ newer_known.slot ];
+      newer = SlotIndex.A;
+      info = infoOf new_fields (page_record 0 0x304);
+      valid = new_known.valid;
+      accepted = new_known.accepted;
+      beside =
+          Beside.both (infoOf newer_fields (page_record 0 2)) newer_known.valid refl (lit< tt) (sym newer_sums.0) newer_known.accepted;
+    }
+
+later_store_sound : Sound later_store
+later_store_sound = sound_with later_page refl later_sound
+
+pub stores_sound : StoresSound
+stores_sound = (sound, later_store_sound)
+
+later_sums : (headerCrc later_fields (page_record 0 0x21b9_61ac) ≡ 0xe83c_e718) × (crc32c (page_record 0 0x21b9_61ac) ≡ 0x906d_1021)
+unfolding headerCrc headerBytes frontBytes identityBytes historyBytes page_header_bytes bytes crc32c finalRemainder remainder digest reversed
+later_sums = (refl, refl)
+
+later_refusal : encodeRefusal later_fields (page_record 0 0x21b9_61ac) 512 ≡ 0
+unfolding encodeRefusal page_header_bytes bytes
+later_refusal = refl
+
+later_correct : (k : ℕ) → CorrectWrite (later_write k)
+unfolding later_sound
+later_correct =
+    write_correct (volume_pair ∷ []) later_page (second_page ∷ [])
+    (highest_with later_page (infoOf new_fields (page_record 0 0x304)) (infoOf newer_fields (page_record 0 2)) new_known.valid newer_known.valid)
+    later_fields
+    (fields_fit 1 SlotIndex.B 4 0xd61e_00d0 6 (lit≤ tt) (lit< tt) (lit< tt) (lit< tt)) refl refl refl refl
+    (infoOf new_fields (page_record 0 0x304)) (sound_won later_page later_sound) refl (sym new_sums.0) (page_record 0 0x21b9_61ac)
+    (page_bytes 0 0x21b9_61ac)
+    page_accepted.3
+    (page_fits 0 0x21b9_61ac)
+
+abbrev pub newer_slot : List ℕ
+newer_slot = summed_slot 0xe83c_e718 0xea7c_0394 newer_fields (page_record 0 2)
+
+abbrev pub later_slot : List ℕ
+later_slot = summed_slot 0xe83c_e718 0x906d_1021 later_fields (page_record 0 0x21b9_61ac)
+
+pub newer_slot_is : encodedBytes newer_fields (page_record 0 2) (replicate 512 0) ≡ newer_slot
+newer_slot_is = summed_is 1 SlotIndex.B 2 0x588e_9174 4 (page_record 0 2) 0xe83c_e718 0xea7c_0394 none_refused.2 newer_sums.0 newer_sums.1
+
+pub later_slot_is : encodedBytes later_fields (page_record 0 0x21b9_61ac) (replicate 512 0) ≡ later_slot
+later_slot_is =
+    summed_is 1 SlotIndex.B 4 0xd61e_00d0 6 (page_record 0 0x21b9_61ac) 0xe83c_e718 0x906d_1021 later_refusal later_sums.0 later_sums.1
+
+later_met : (k : ℕ) → cut_tests k later_slot newer_slot (page_record 0 0x21b9_61ac) ≡ true → IsMet (later_write k)
+later_met k =
+    met_by (later_write k) later_store_sound (unmarked_with later_page) (later_correct k) refl newer_slot later_slot newer_slot_is later_slot_is
+
+pub later_cuts : LaterMet
+unfolding cut headerSum headerBytes frontBytes identityBytes historyBytes page_header_bytes bytes le crc32c finalRemainder remainder digest reversed
+later_cuts = Every.more (later_met 64 refl) (Every.more (later_met 133 refl) Every.none)
+
+-- ---- the hypotheses are the theorem's
+
+pub met_is_enough : MetIsEnough
+met_is_enough w met out room = cut_theorem w met.sound met.unmarked met.correct met.point met.none out room

@@ -1,0 +1,132 @@
+-- Two stores of three pairs, the volume record and two pages, in slots of 512 bytes. The checksums that a slot names are written as numbers.
+use Rattle.std.specs.Prelude.{Bool, true, false, List, [], ◌∷◌, ◌++◌, ℕ, ◌+◌, ◌*◌, replicate}
+use Rattle.slot.specs.Status.{indexNumber}
+use Rattle.slot.specs.Write.{encodedBytes}
+use Rattle.slot.specs.declared.slot.SlotIndex.{SlotIndex}
+use Rattle.slot.specs.declared.slot.SlotFields.{SlotFields}
+use Rattle.slot.specs.declared.slot.Expect.{Expect}
+use Rattle.frame.specs.declared.frame.SlotPart.{SlotPart}
+use Rattle.volume.specs.Volume.{volumeBytes}
+use Rattle.page_write.specs.Write.{headerBytes}
+use Rattle.cut.specs.Store.{Volume, Page, Slot, Pair}
+
+-- ---- records
+
+-- The volume record of a store with two pages, with its clean mark.
+abbrev pub volume_record : Bool → List ℕ
+volume_record mark =
+    volumeBytes
+    (record {
+      base =
+          record {
+            log2_block_size = 12;
+            log2_table_slot_size = 12;
+            device_index = 0;
+            owner_generation = 1;
+            table_offset = 8192;
+            created_unix_s = 0;
+            features = 0;
+          };
+      table_pages = 2;
+      entries_per_page = 41;
+      clean_close = mark;
+      flags = 0;
+    })
+
+-- A page with no entry.
+abbrev pub page_record : (index next : ℕ) → List ℕ
+page_record index next = headerBytes (record { page_index = index; next_seq = next; count = 0 })
+
+-- ---- slots
+
+-- What a host left in the fields of a frame that are not given: the largest numbers.
+abbrev pub rest : SlotPart
+rest =
+    record {
+      code = 0;
+      facts = 0;
+      generation = 0xffff_ffff_ffff_ffff;
+      meta_seq = 0xffff_ffff_ffff_ffff;
+      header_crc32c = 0xffff_ffff;
+      prev_header_crc32c = 0xffff_ffff;
+    }
+
+-- The slots of an object lie one behind the other, and those of the next object behind them.
+abbrev pub fields : (object : ℕ) → SlotIndex → (generation prev number : ℕ) → SlotFields
+fields object index generation prev number =
+    record {
+      volume_uuid = replicate 16 7;
+      object_id = object;
+      generation = generation;
+      owner_generation = 1;
+      slot_offset = 1024 * object + 512 * indexNumber index;
+      slot_index = index;
+      log2_slot_size = 9;
+      prev_header_crc32c = prev;
+      format_major = 2;
+      meta_seq = number;
+      compat_flags = 0;
+    }
+
+-- A slot is read with the identity and size that it is written with, in format 2 and numbered.
+abbrev pub read_with : SlotFields → Expect
+read_with f =
+    record {
+      volume_uuid = f.volume_uuid;
+      object_id = f.object_id;
+      slot_offset = f.slot_offset;
+      slot_index = f.slot_index;
+      log2_slot_size = f.log2_slot_size;
+      format_major = f.format_major;
+      numbered = true;
+    }
+
+-- A slot as `encode` writes it.
+abbrev pub written_slot : SlotFields → List ℕ → Slot
+written_slot f payload = record { bytes = encodedBytes f payload (replicate 512 0); expect = read_with f; rest = rest }
+
+-- A Blank slot: behind its first 128 bytes it holds anything.
+abbrev pub blank_slot : (object : ℕ) → SlotIndex → Slot
+blank_slot object index =
+    record { bytes = replicate 128 0 ++ replicate 384 9; expect = read_with (fields object index 0 0 0); rest = rest }
+
+-- ---- pairs
+
+-- Pair 0: A of generation 1, B Blank.
+abbrev pub volume_fields : SlotFields
+volume_fields = fields 0 SlotIndex.A 1 0 1
+
+abbrev pub volume_pair : Pair
+volume_pair = record { a = written_slot volume_fields (volume_record false); b = blank_slot 0 SlotIndex.B; decoder = Volume }
+
+-- Pair 1: A of generation 1, B of generation 2, which names A's checksum.
+abbrev pub older_fields : SlotFields
+older_fields = fields 1 SlotIndex.A 1 0 2
+
+abbrev pub newer_fields : SlotFields
+newer_fields = fields 1 SlotIndex.B 2 0x588e_9174 4
+
+abbrev pub first_page : Pair
+first_page = record { a = written_slot older_fields (page_record 0 1); b = written_slot newer_fields (page_record 0 2); decoder = Page 0 41 }
+
+-- Pair 2: A of generation 1, B Blank.
+abbrev pub second_fields : SlotFields
+second_fields = fields 2 SlotIndex.A 1 0 3
+
+abbrev pub second_page : Pair
+second_page = record { a = written_slot second_fields (page_record 1 0); b = blank_slot 2 SlotIndex.B; decoder = Page 1 41 }
+
+-- Pair 1 once a write to its slot A stands whole: A of generation 3, which names B's checksum, and B of generation 2.
+abbrev pub new_fields : SlotFields
+new_fields = fields 1 SlotIndex.A 3 0xe83c_e718 5
+
+abbrev pub later_page : Pair
+later_page = record { a = written_slot new_fields (page_record 0 0x304); b = written_slot newer_fields (page_record 0 2); decoder = Page 0 41 }
+
+-- ---- the stores
+
+abbrev pub first_store : List Pair
+first_store = volume_pair ∷ first_page ∷ second_page ∷ []
+
+abbrev pub later_store : List Pair
+later_store = volume_pair ∷ later_page ∷ second_page ∷ []

@@ -1,0 +1,105 @@
+-- The cut theorem is not empty: four writes to the stores of Stores.antt, cut at nineteen places, meet every hypothesis of it.
+use Rattle.std.specs.Prelude.{◌≡◌, true, false, List, [], ◌∷◌, ℕ, ◌*◌, length, replicate}
+use Rattle.slot.specs.declared.slot.SlotIndex.{SlotIndex}
+use Rattle.slot.specs.declared.slot.SlotFields.{SlotFields}
+use Rattle.judge_frames.specs.Frames.{verdictWidth}
+use Rattle.cut.specs.Store.{Every, Pair, store_mark, Sound}
+use Rattle.cut.specs.Cut.{Write, store, size, old, new, left, CutPoint, CorrectWrite, whole, Accident, handed, Survives}
+use Rattle.cut_examples.specs.Stores.{volume_record, page_record, fields, volume_pair, first_page, second_page, new_fields, later_page, first_store, later_store}
+
+-- ---- the hypotheses
+
+-- Both stores are sound.
+abbrev pub StoresSound : Type 0
+StoresSound = Sound first_store × Sound later_store
+
+-- What the theorem asks of a write and its cut.
+pub record IsMet (w : Write) : Type 0 where
+  pub sound : Sound (store w)
+  pub unmarked : store_mark (store w) ≡ false
+  pub correct : CorrectWrite w
+  pub point : CutPoint w.k (size w)
+  pub none : Accident (left w) (old w) (new w) w.payload → ⊥
+
+-- Nothing else is asked: what the theorem concludes follows.
+abbrev pub MetIsEnough : Type 0
+MetIsEnough = (w : Write) → IsMet w → (out : List ℕ) → length out ≡ length (store w) * verdictWidth → Survives w out
+
+-- ---- the writes
+
+-- `encode` of the fields and the payload into zeros, for the slot of the pair that the fields name.
+abbrev pub write_to : (before : List Pair) → Pair → (behind : List Pair) → SlotFields → (payload : List ℕ) → (k : ℕ) → Write
+write_to before p behind f payload k =
+    record {
+      before = before;
+      pair = p;
+      behind = behind;
+      index = f.slot_index;
+      fields = f;
+      payload = payload;
+      buffer = replicate 512 0;
+      k = k;
+    }
+
+-- A page to slot A of pair 1 over generation 1: generation 3, with B's checksum and number 5.
+abbrev pub page_write : ℕ → Write
+page_write = write_to (volume_pair ∷ []) first_page (second_page ∷ []) new_fields (page_record 0 0x304)
+
+-- The volume record with its clean mark set to the Blank slot B of pair 0: generation 2, with A's checksum and number 5.
+abbrev pub marked_fields : SlotFields
+marked_fields = fields 0 SlotIndex.B 2 0x1d15_7c74 5
+
+abbrev pub volume_write : ℕ → Write
+volume_write = write_to [] volume_pair (first_page ∷ second_page ∷ []) marked_fields (volume_record true)
+
+-- A page to the Blank slot B of pair 2: generation 2, with A's checksum and number 5.
+abbrev pub next_fields : SlotFields
+next_fields = fields 2 SlotIndex.B 2 0x2c8c_2a3c 5
+
+abbrev pub second_write : ℕ → Write
+second_write = write_to (volume_pair ∷ first_page ∷ []) second_page [] next_fields (page_record 1 1)
+
+-- A page to slot B of the later pair 1 over generation 2: generation 4, with A's checksum and number 6. Its next seq makes the new header's
+-- checksum that of the header it is written over.
+abbrev pub later_fields : SlotFields
+later_fields = fields 1 SlotIndex.B 4 0xd61e_00d0 6
+
+abbrev pub later_write : ℕ → Write
+later_write = write_to (volume_pair ∷ []) later_page (second_page ∷ []) later_fields (page_record 0 0x21b9_61ac)
+
+-- The stores that they are written to.
+abbrev pub StoresWritten : Type 0
+StoresWritten =
+    (k : ℕ)
+    → (store (page_write k) ≡ first_store) × (store (volume_write k) ≡ first_store) × (store (second_write k) ≡ first_store)
+    × (store (later_write k) ≡ later_store)
+
+-- ---- the cuts
+
+-- After 8 bytes the header is the old one; after 11 and 64 it is neither and fails; after 127 it is the new one, since its last byte is
+-- zero; after 133 the payload is neither and fails; after 134 it is the new one, since zeros follow.
+abbrev pub PageMet : Type 0
+PageMet = Every (λ (k : ℕ). IsMet (page_write k)) (0 ∷ 8 ∷ 11 ∷ 64 ∷ 127 ∷ 128 ∷ 133 ∷ 134 ∷ 512 ∷ [])
+
+-- After 8 and 11 bytes the header's length is still zero; after 128 the payload is what stood there before.
+abbrev pub VolumeMet : Type 0
+VolumeMet = Every (λ (k : ℕ). IsMet (volume_write k)) (0 ∷ 8 ∷ 11 ∷ 64 ∷ 128 ∷ 191 ∷ 192 ∷ [])
+
+-- After 140 bytes the payload is half new, and half what stood there before.
+abbrev pub SecondMet : Type 0
+SecondMet = IsMet (second_write 140)
+
+-- After 64 bytes the header is neither and fails, and the checksum stored in it is the old one's and the new one's; after 133 the payload
+-- fails.
+abbrev pub LaterMet : Type 0
+LaterMet = Every (λ (k : ℕ). IsMet (later_write k)) (64 ∷ 133 ∷ [])
+
+-- ---- what stands whole, and the mark
+
+-- The page stands whole with its last byte that is not zero.
+abbrev pub StandsWhole : Type 0
+StandsWhole = (whole (page_write 133) ≡ false) × (whole (page_write 134) ≡ true)
+
+-- The judge is handed the new record's mark once the volume record stands whole.
+abbrev pub MarkHanded : Type 0
+MarkHanded = (handed (volume_write 191) ≡ false) × (handed (volume_write 192) ≡ true)

@@ -1,0 +1,153 @@
+-- The frames filled from a row of pairs stand for that row, so that the judge over them judges it: there is an error only for an empty row,
+-- another room than the verdicts need, and a mark out of range.
+use Rattle.std.proofs.Common.{◌≡◌, refl, sym, ap, ap₂, ◌∙◌, Bool, true, false, ◌&&◌, List, [], ◌∷◌, ◌++◌, ℕ, ◌*◌, arith, eqb, leb, length, map, length-append, take_at, drop_at, append-nil, Option, Some, None}
+use Rattle.std.specs.List.{list_all}
+use Rattle.std.specs.Simd.{first_chunks}
+use Rattle.codec.proofs.ReadLaws.{start, onward}
+use Rattle.judge.specs.declared.pairs.Pair.{Pair}
+use Rattle.judge.specs.declared.part.SlotPart.{SlotPart}
+use Rattle.judge.specs.declared.verdict.PairVerdict.{PairVerdict}
+use Rattle.judge.specs.declared.verdict.JudgeError.{JudgeError}
+use Rattle.judge.specs.declared.records.PairRead.{PairRead}
+use Rattle.judge.specs.Part.{part_bytes, part_at, part_shown, is_in_range}
+use Rattle.judge.specs.Judge.{verdicts, judgement, error, unless, left}
+use Rattle.judge.specs.Records.{pair_read, records_error, judge_records, records_left}
+use Rattle.judge.specs.Frames.{frame_width, verdict_width, pair_from, pair_in_range, pair_count, frames, row, row_bytes, frames_error, judge_frames, frames_left}
+use Rattle.judge.specs.Same.{filled, Framed, part_read, frame_of, frames_of, pairs_of, Fits, AllFit, mark, SameJudge, IgnoredFields}
+use Rattle.judge.proofs.PartLaws.{part-shows, part-in-range, filled-fits, length_part, part-read}
+use Rattle.judge.proofs.FrameLaws.{same_test, whole}
+
+-- ---- a pair's frame
+
+module _ (f : Framed) (fits : Fits f) where
+  abbrev a : SlotPart
+  a = filled f.rest_a (part_read f.pair.a)
+
+  abbrev b : SlotPart
+  b = filled f.rest_b (part_read f.pair.b)
+
+  a-read : part_at (frame_of f) 0 ≡ a
+  a-read = part-read (frame_of f) (part_bytes b) 0 a (filled-fits _ _ fits.a fits.rest_a) (start _ _ refl)
+
+  b-read : part_at (frame_of f) 26 ≡ b
+  b-read =
+      part-read (frame_of f) [] 26 b (filled-fits _ _ fits.b fits.rest_b)
+      (onward 26 (part_bytes a) (part_bytes b ++ []) (length_part a) (start _ _ (ap (λ (t : List ℕ). part_bytes a ++ t) (sym (append-nil (part_bytes b))))))
+
+  frame-pair : pair_from (frame_of f) ≡ pair_read f.pair
+  frame-pair =
+      ap₂ {C = Pair} (λ x y. record { a = x; b = y }) (ap part_shown a-read ∙ part-shows f.rest_a f.pair.a.status f.pair.a.facts)
+      (ap part_shown b-read ∙ part-shows f.rest_b f.pair.b.status f.pair.b.facts)
+
+  frame-in-range : pair_in_range (frame_of f) ≡ true
+  frame-in-range =
+      ap₂ (λ x y. x && y) (ap is_in_range a-read ∙ part-in-range f.rest_a f.pair.a.status f.pair.a.facts)
+      (ap is_in_range b-read ∙ part-in-range f.rest_b f.pair.b.status f.pair.b.facts)
+
+length-frame : (f : Framed) → length (frame_of f) ≡ frame_width
+length-frame f = simp (length-append, length_part)
+
+-- ---- the frames of a row
+
+length-frames : (fs : List Framed) → length (frames_of fs) ≡ length fs * frame_width
+length-frames [] = refl
+length-frames (f ∷ fs) = simp (length-append, length_part) (omega (arith, length-frames fs))
+
+chunked : (fs : List Framed) → first_chunks frame_width (length fs) (frames_of fs) ≡ map frame_of fs
+chunked [] = refl
+chunked (f ∷ fs) =
+    ap₂ (λ (x : List ℕ) (xs : List (List ℕ)). x ∷ xs) (take_at (frame_of f) (frames_of fs) frame_width (length-frame f))
+    (ap (first_chunks frame_width (length fs)) (drop_at (frame_of f) (frames_of fs) frame_width (length-frame f)) ∙ chunked fs)
+
+read_all : (fs : List Framed) → AllFit fs → map pair_from (map frame_of fs) ≡ map pair_read (pairs_of fs)
+read_all [] fits = refl
+read_all (f ∷ fs) fits = ap₂ (λ (p : Pair) (ps : List Pair). p ∷ ps) (frame-pair f fits.0) (read_all fs fits.1)
+
+all-in-range : (fs : List Framed) → AllFit fs → list_all pair_in_range (map frame_of fs) ≡ true
+all-in-range [] fits = refl
+all-in-range (f ∷ fs) fits = simp (frame-in-range f fits.0, all-in-range fs fits.1)
+
+length-pairs : (fs : List Framed) → length (pairs_of fs) ≡ length fs
+length-pairs [] = refl
+length-pairs (f ∷ fs) = simp (length-pairs fs)
+
+and-true : (x : Bool) → x && true ≡ x
+and-true x = grind arith
+
+-- ---- the judge over them
+
+-- The error of so many pairs.
+abbrev pub framed_error : List PairRead → ℕ → ℕ → Option JudgeError
+framed_error ps clean room = error (eqb (length ps) 0) true (eqb room (length ps * verdict_width)) (leb clean 1)
+
+module _ (fs : List Framed) (fits : AllFit fs) where
+  count-is : pair_count (frames_of fs) ≡ length (pairs_of fs)
+  count-is = omega (arith, length-frames fs, length-pairs fs)
+
+  frames-are : frames (frames_of fs) ≡ map frame_of fs
+  frames-are = ap (λ (n : ℕ). first_chunks frame_width n (frames_of fs)) (count-is ∙ length-pairs fs) ∙ chunked fs
+
+  row-is : row (frames_of fs) ≡ map pair_read (pairs_of fs)
+  row-is = ap (map pair_from) frames-are ∙ read_all fs fits
+
+  error-is : (clean room : ℕ) → frames_error (frames_of fs) clean room ≡ framed_error (pairs_of fs) clean room
+  error-is clean room =
+      whole (frames_of fs) clean room (omega (arith, length-frames fs))
+      ∙ ap₂ (λ (n : ℕ) (within : Bool). error (eqb n 0) true (eqb room (n * verdict_width)) within) count-is
+      (ap (λ x. leb clean 1 && x) (ap (list_all pair_in_range) frames-are ∙ all-in-range fs fits) ∙ and-true (leb clean 1))
+
+  pub answer-is : (clean room : ℕ)
+      → judge_frames (frames_of fs) clean room
+      ≡ unless (framed_error (pairs_of fs) clean room) (judgement (map pair_read (pairs_of fs)) (eqb clean 1))
+  unfolding judge_frames
+  answer-is clean room = rw (error-is clean room, row-is)
+
+  pub verdicts-are : (clean : ℕ) (out : List ℕ)
+      → frames_left (frames_of fs) clean out
+      ≡ left (framed_error (pairs_of fs) clean (length out)) (row_bytes (verdicts (map pair_read (pairs_of fs)) (eqb clean 1))) out
+  unfolding frames_left
+  verdicts-are clean out = rw (error-is clean (length out), row-is)
+
+-- ---- both judges
+
+mark-back : (clean : Bool) → (leb (mark clean) 1 ≡ true) × (eqb (mark clean) 1 ≡ clean)
+mark-back true = (refl, refl)
+mark-back false = (refl, refl)
+
+same-error : (ps : List PairRead) (clean : Bool) (room : ℕ) → framed_error ps (mark clean) (room * verdict_width) ≡ records_error ps room
+same-error ps clean room =
+    let rooms = same_test (room * verdict_width) (length ps * verdict_width) room (length ps) (λ is. omega (arith, is)) (λ is. omega (arith, is)) in
+    simp (rooms, (mark-back clean).0)
+
+length-verdicts : (vs : List PairVerdict) → length (row_bytes vs) ≡ length vs * verdict_width
+length-verdicts [] = refl
+length-verdicts (v ∷ vs) = simp (length-verdicts vs) (omega arith)
+
+left-bytes : (e : Option JudgeError) (done old : List PairVerdict) → left e (row_bytes done) (row_bytes old) ≡ row_bytes (left e done old)
+left-bytes None done old = refl
+left-bytes (Some e) done old = refl
+
+pub same_judge : SameJudge
+unfolding judge_records records_left
+same_judge =
+    record {
+      answer = λ fs fits clean room. answer-is fs fits (mark clean) (room * verdict_width) ∙ simp (same-error (pairs_of fs) clean room, (mark-back clean).1);
+      verdicts = λ fs fits clean out.
+          let by_frames =
+          simp (length-verdicts out, same-error (pairs_of fs) clean (length out), (mark-back clean).1)
+          at (verdicts-are fs fits (mark clean) (row_bytes out)) in
+          by_frames ∙ left-bytes (records_error (pairs_of fs) (length out)) (verdicts (map pair_read (pairs_of fs)) clean) out;
+    }
+
+pub ignored_fields : IgnoredFields
+ignored_fields =
+    record {
+      answer = λ fs gs fits fits' same clean room.
+          answer-is fs fits clean room
+          ∙ ap (λ (ps : List PairRead). unless (framed_error ps clean room) (judgement (map pair_read ps) (eqb clean 1))) same
+          ∙ sym (answer-is gs fits' clean room);
+      verdicts = λ fs gs fits fits' same clean out.
+          verdicts-are fs fits clean out
+          ∙ ap (λ (ps : List PairRead). left (framed_error ps clean (length out)) (row_bytes (verdicts (map pair_read ps) (eqb clean 1))) out) same
+          ∙ sym (verdicts-are gs fits' clean out);
+    }
