@@ -65,8 +65,12 @@ pub const PAGE_HEADER_LEN: usize = 24;
 pub const ENTRY2_LEN: usize = 96;
 /// Pages a container may have.
 pub const MAX_TABLE_PAGES: u32 = 1 << 30;
-/// Must-understand entry flags this version knows: provisioned unwritten, growth capped.
-pub const KNOWN_FLAGS: u8 = 3;
+/// Entry flag: provisioned unwritten.
+pub const FLAG_UNWRITTEN: u8 = 1 << 0;
+/// Entry flag: growth limited to the capacity.
+pub const FLAG_CAPPED: u8 = 1 << 1;
+/// Must-understand entry flags this version knows.
+pub const KNOWN_FLAGS: u8 = FLAG_UNWRITTEN | FLAG_CAPPED;
 
 /// The size of a block or a table slot. A `log2` outside 12 to 16 counts as the nearer end.
 #[tactic(auto, unfolding(crate::specs::Block::block_size))]
@@ -657,11 +661,7 @@ impl RawEntry {
         let block = block_size(lim.log2_block);
         let start = (self.span_start - self.span_start % block).max(lim.table_end);
         let end = whole_up(self.span_end, block).min(lim.file_len);
-        if start < end {
-            Some((start, end))
-        } else {
-            None
-        }
+        (start < end).then_some((start, end))
     }
 }
 
