@@ -9,11 +9,8 @@ pub whole_cells : (len n : ℕ) → eqb (len % 4) 0 && eqb (len / 4) n ≡ eqb l
 whole_cells len n = grind arith
 
 pub length_cells : (s : List ℕ) → length (verdict_cells s) ≡ length s / 4
-length_cells [] = refl
-length_cells (x ∷ []) = refl
-length_cells (x ∷ y ∷ []) = refl
-length_cells (x ∷ y ∷ z ∷ []) = refl
 length_cells (x ∷ y ∷ z ∷ w ∷ s) = omega (arith, length_cells s)
+length_cells _ = refl
 
 next : (i : ℕ) → suc i * 4 ≡ suc (suc (suc (suc (i * 4))))
 next i = omega arith
@@ -32,30 +29,22 @@ verdictAt s at =
     }
 
 pub cells_read : (s : List ℕ) (i : ℕ) → i < length (verdict_cells s) → slice_get (map verdict_from (verdict_cells s)) i ≡ Some (verdictAt s (i * 4))
-cells_read [] i within = absurd (omega arith)
-cells_read (x ∷ []) i within = absurd (omega arith)
-cells_read (x ∷ y ∷ []) i within = absurd (omega arith)
-cells_read (x ∷ y ∷ z ∷ []) i within = absurd (omega arith)
 cells_read (x ∷ y ∷ z ∷ w ∷ s) zero within = refl
 cells_read (x ∷ y ∷ z ∷ w ∷ s) (suc i) within = rw (next i, past (i * 4) 1, past (i * 4) 2, past (i * 4) 3) (cells_read s i (omega arith))
+cells_read _ i within = absurd (omega arith)
 
 pub cells_put : (s : List ℕ) (i : ℕ) (v : PairVerdict) → i < length (verdict_cells s)
     → verdict_cells (take (i * 4) s ++ (verdict_bytes v ++ drop 4 (drop (i * 4) s))) ≡ set (verdict_cells s) i (verdict_bytes v)
-cells_put [] i v within = absurd (omega arith)
-cells_put (a ∷ []) i v within = absurd (omega arith)
-cells_put (a ∷ b ∷ []) i v within = absurd (omega arith)
-cells_put (a ∷ b ∷ c ∷ []) i v within = absurd (omega arith)
 cells_put (a ∷ b ∷ c ∷ d ∷ s) zero v within = refl
 cells_put (a ∷ b ∷ c ∷ d ∷ s) (suc i) v within =
     rw (next i) (ap (λ (rest : List (List ℕ)). (a ∷ b ∷ c ∷ d ∷ []) ∷ rest) (cells_put s i v (omega arith)))
+cells_put _ i v within = absurd (omega arith)
 
 -- Where no rest is left, the list is its verdicts' bytes.
 joined : (s : List ℕ) → length s % 4 ≡ 0 → s ≡ flat_map (λ (four : List ℕ). four) (verdict_cells s)
 joined [] whole = refl
-joined (x ∷ []) whole = absurd (omega arith)
-joined (x ∷ y ∷ []) whole = absurd (omega arith)
-joined (x ∷ y ∷ z ∷ []) whole = absurd (omega arith)
 joined (x ∷ y ∷ z ∷ w ∷ s) whole = ap (λ (rest : List ℕ). x ∷ y ∷ z ∷ w ∷ rest) (joined s (omega arith))
+joined _ whole = absurd (omega arith)
 
 flat : (vs : List PairVerdict) → flat_map (λ (four : List ℕ). four) (map verdict_bytes vs) ≡ flat_map verdict_bytes vs
 flat [] = refl

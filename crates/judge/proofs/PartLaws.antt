@@ -15,41 +15,18 @@ use Rattle.judge.specs.Same.{filled, NothingGiven, ChecksumGiven, VersionFits}
 -- ---- what it shows, and its range
 
 facts-small : (f : Option HeaderFacts) → leb (facts_number f) 2 ≡ true
-facts-small None = refl
-facts-small (Some f) = go f.numbered
-  where
-    go : (n : Option NumberedHeader) → leb (header_number n) 2 ≡ true
-    go None = refl
-    go (Some n) = refl
+facts-small f = grind arith
 
 abbrev Shows : Version → SlotStatus → Option HeaderFacts → Type 0
 Shows rest st f = (part_shown (filled rest (part_of st f)) ≡ shown_of st f) × (leb (code st) 12 ≡ true)
 
 shows : (rest : Version) (st : SlotStatus) (f : Option HeaderFacts) → Shows rest st f
 unfolding filled
-shows rest SlotStatus.ReadError f = (refl, refl)
-shows rest SlotStatus.BadLength f = (refl, refl)
-shows rest SlotStatus.Blank f = (refl, refl)
-shows rest SlotStatus.BadMagic f = (refl, refl)
 shows rest SlotStatus.BadHeaderCrc None = (refl, refl)
-shows rest SlotStatus.BadHeaderCrc (Some f) = go f.numbered
-  where
-    go : (n : Option NumberedHeader) → Shows rest SlotStatus.BadHeaderCrc (Some (record { stored_header_crc32c = f.stored_header_crc32c; numbered = n }))
-    go None = (refl, refl)
-    go (Some n) = (refl, refl)
-shows rest (SlotStatus.UnsupportedVersion major) f = (refl, refl)
-shows rest (SlotStatus.Incompatible flags) f = (refl, refl)
-shows rest SlotStatus.Malformed f = (refl, refl)
-shows rest SlotStatus.Foreign f = (refl, refl)
-shows rest SlotStatus.WrongObject f = (refl, refl)
-shows rest SlotStatus.Misplaced f = (refl, refl)
+shows rest SlotStatus.BadHeaderCrc (Some f) = (grind arith, refl)
 shows rest SlotStatus.BadPayloadCrc None = (refl, refl)
-shows rest SlotStatus.BadPayloadCrc (Some f) = go f.numbered
-  where
-    go : (n : Option NumberedHeader) → Shows rest SlotStatus.BadPayloadCrc (Some (record { stored_header_crc32c = f.stored_header_crc32c; numbered = n }))
-    go None = (refl, refl)
-    go (Some n) = (refl, refl)
-shows rest (SlotStatus.Valid i) f = (refl, refl)
+shows rest SlotStatus.BadPayloadCrc (Some f) = (grind arith, refl)
+shows rest _ f = (refl, refl)
 
 pub part-shows : (rest : Version) (st : SlotStatus) (f : Option HeaderFacts) → part_shown (filled rest (part_of st f)) ≡ shown_of st f
 part-shows rest st f = (shows rest st f).0

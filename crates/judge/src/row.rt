@@ -121,7 +121,7 @@ fn second_pass<V: Verdicts>(
         let v = out.verdict(i);
         if v.in_flight() {
             let last = v.demoted_if(rules.demotes(i == 0));
-            heal = last.heal(i).or(heal);
+            heal = last.heal_or(i, heal);
             out.put(i, last);
         }
     }
