@@ -1,5 +1,5 @@
 -- A block has 4 KiB to 64 KiB, and a table of them ends within 64 bits.
-use Rattle.std.proofs.Common.{◌≡◌, ℕ, ◌*◌, ◌^◌, ◌<◌, ◌≤◌, min, max, arith, pow_mono}
+use Rattle.std.proofs.Common.{◌≡◌, ap, ℕ, ◌*◌, ◌^◌, ◌<◌, ◌≤◌, min, max, arith, pow_mono}
 use Rattle.std.proofs.Math.Nat.{mul-le-mul_left}
 use Rattle.meta.specs.Block.{block_size}
 
@@ -19,3 +19,8 @@ table_fits pages log2 small =
     let slot : block_size log2 ≤ 65536 = (block_range log2).1 in
     let most : 2 * pages * block_size log2 ≤ 2 * pages * 65536 = mul-le-mul_left (2 * pages) slot in
     omega arith
+
+-- In the range a block is the power.
+pub block_in_range : (log2 : ℕ) → 12 ≤ log2 → log2 ≤ 16 → block_size log2 ≡ 2 ^ log2
+unfolding block_size
+block_in_range log2 low high = let at : max 12 (min log2 16) ≡ log2 = omega arith in ap (λ (n : ℕ). 2 ^ n) at

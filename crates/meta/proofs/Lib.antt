@@ -1,4 +1,7 @@
+pub mod ErrorLaws
 pub mod BlockLaws
+pub mod LayoutLaws
+pub mod RoundLaws
 pub mod Rows
 pub mod Encoding
 pub mod Utf8Laws
@@ -6,3 +9,5 @@ pub mod NameLaws
 pub mod BaseLaws
 pub mod VolumeLaws
 pub mod EntryLaws
+pub mod PageLaws
+pub mod TableLaws

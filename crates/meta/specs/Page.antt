@@ -7,7 +7,6 @@ use Rattle.std.specs.Simd.{first_chunks}
 use Rattle.codec.specs.Bytes.{AllBytes, le16, le32}
 use Rattle.codec.specs.Cursor.{◌>>=◌, run, number}
 use Rattle.codec.specs.Place.{Part}
-use Rattle.codec.specs.declared.codec.Reader.{Reader}
 use Rattle.meta.specs.declared.meta.Field.{Field}
 use Rattle.meta.specs.declared.meta.MetaError.{MetaError}
 use Rattle.meta.specs.declared.meta2.PageHeader.{PageHeader}
@@ -131,10 +130,10 @@ pub record AcceptablePage (h : PageHeader) (es : List (List ℕ)) (most : ℕ) :
 -- An acceptable page that was written is read back with its header and its entries, zeros at 38; a page that is read is acceptable, and
 -- is written as the bytes that it was read from.
 pub record PagesBack : Type 0 where
-  pub read_back : (h : PageHeader) (es : List (List ℕ)) (most : ℕ) → AcceptablePage h es most
-      → decode_page (page_bytes h es) h.page_index most ≡ Ok h
-  pub entries_back : (h : PageHeader) (es : List (List ℕ)) (most : ℕ) → AcceptablePage h es most
-      → entries (page_bytes h es) ≡ map stored_part es
+  pub read_back : (h : PageHeader) (es : List (List ℕ)) (out : List ℕ) (len most : ℕ) → (encode_page h es out).1 ≡ Ok len → AcceptablePage h es most
+      → decode_page (take len (encode_page h es out).0) h.page_index most ≡ Ok h
+  pub entries_back : (h : PageHeader) (es : List (List ℕ)) (out : List ℕ) (len most : ℕ) → (encode_page h es out).1 ≡ Ok len → AcceptablePage h es most
+      → entries (take len (encode_page h es out).0) ≡ map stored_part es
   pub accepted : (s : List ℕ) (index most : ℕ) (h : PageHeader) → AllBytes s → decode_page s index most ≡ Ok h
       → AcceptablePage h (entries s) most
   pub written_back : (s : List ℕ) (index most : ℕ) (h : PageHeader) → AllBytes s → decode_page s index most ≡ Ok h

@@ -20,12 +20,11 @@ ghost use Rattle.meta.specs.Kind.{kind_number, kind_at, state_number, state_at};
 ghost use Rattle.meta.specs.Utf8.{utf8};
 ghost use Rattle.meta.specs.Scalar.{GrammarEncodes};
 ghost use Rattle.meta.specs.Name.{is_name, zero_at, named, padded, text, name_text, NamesAre, NamesBack};
-ghost use Rattle.meta.specs.Base.{base_at, check_base, decode_base, base_row, encode_base, BaseLayout, BasesBack};
+ghost use Rattle.meta.specs.Base.{base_at, check_base, decode_base, base_row, encode_base, BasesBack};
 
-use codec::codec::{Reader, Writer};
+use codec::codec::{Reader, Writer, copy};
 use std::error::Error;
-use std::fmt;
-use std::str;
+use std::{fmt, str};
 
 /// A field whose value is refused.
 #[derive(Clone, Copy, PartialEq, Eq, Debug)]
@@ -142,7 +141,8 @@ impl fmt::Display for Field {
             Field::DataSize => "the region's data exceeds its capacity",
             Field::Span => "the region's span is empty or ends behind the file",
             Field::Capacity => "the region's capacity is zero or exceeds its span",
-            Field::Header => "the region's two headers are not in its span behind the table, in two places",
+            Field::Header =>
+                "the region's two headers are not in its span behind the table, in two places",
             Field::FootprintSeq => "the footprint's number is zero or above the page's",
             Field::Slot => "a slot region has extents or a data area",
             Field::ExtentCount => "the region has no extent",
@@ -256,7 +256,7 @@ impl RegionName {
             return Err(MetaError::Field(Field::Name));
         }
         let mut bytes = [0u8; NAME_MAX];
-        bytes[..name.len()].copy_from_slice(name);
+        copy(&mut bytes[..name.len()], name);
         Ok(Self {
             bytes,
             len: name.len() as u8,
@@ -469,3 +469,33 @@ impl VolumeMeta {
         w.zeros(out, 8)
     }
 }
+
+/// Does nothing: its contract is that a refusal's number fixes the refusal.
+#[tactic(auto, using(crate::proofs::ErrorLaws::numbered))]
+pub fn case_law()
+    ensures { Numbered }
+{}
+
+/// Does nothing: its contract is that UTF-8 is the encodings of runs of scalar values, and nothing else.
+#[tactic(auto, using(crate::proofs::Utf8Laws::grammar_encodes))]
+pub fn grammar_law()
+    ensures { GrammarEncodes }
+{}
+
+/// Does nothing: its contract is that names are the encodings of scalar values in 1 to 24 bytes, none of them zero.
+#[tactic(auto, using(crate::proofs::NameLaws::names_are))]
+pub fn name_law()
+    ensures { NamesAre }
+{}
+
+/// Does nothing: its contract is the round trip of names.
+#[tactic(auto, using(crate::proofs::NameLaws::names_back))]
+pub fn names_back()
+    ensures { NamesBack }
+{}
+
+/// Does nothing: its contract is the round trip of the base.
+#[tactic(auto, using(crate::proofs::BaseLaws::bases_back))]
+pub fn bases_back()
+    ensures { BasesBack }
+{}

@@ -43,11 +43,13 @@
 ghost use Rattle.std.specs.Prelude.{◌≡◌, ◌≤◌, ◌*◌, length};
 ghost use Rattle.std.specs.List.{flat_map};
 ghost use Rattle.codec.specs.Cursor.{write_row};
+ghost use Rattle.meta.specs.Base.{BaseLayout};
 ghost use Rattle.meta.specs.Block.{block_size, entries_per_page};
 ghost use Rattle.meta.specs.Name.{name_in};
 ghost use Rattle.meta.specs.Volume.{tail_at, check_tail, decode_volume, volume_row, encode_volume, table_end, check_file_len, TailLayout, VolumesBack};
 ghost use Rattle.meta.specs.Entry.{read_entry, entry_row, write_entry, name_and_kind, whole_up, reserved_span, to_raw, EntryLayout};
 ghost use Rattle.meta.specs.Check.{check_span, check_header, check_footprint, check_content, check_sizes, check_entry, EntriesBack};
+ghost use Rattle.meta.specs.Table.{Table};
 ghost use Rattle.meta.specs.Page.{header_at, decode_page, Gives, parts, entries, seq, shares, check_own, check_entries, header_row, stored_part, encode_page, HeaderLayout, PagesBack};
 
 use crate::meta::{
@@ -518,7 +520,9 @@ impl RawEntry {
         self.check_header(self.header_b, lim)?;
         self.check_footprint(lim)?;
         self.check_content(kind)?;
-        self.check_sizes(kind, lim)?;
+        let Ok(_) = self.check_sizes(kind, lim) else {
+            return Err(MetaError::Unaligned);
+        };
         Ok(Entry2 {
             seq: self.seq,
             kind,
@@ -609,7 +613,7 @@ impl RawEntry {
     }
 
     /// Whole data blocks; of 512 bytes in an append region.
-    #[tactic(auto, unfolding(crate::specs::Check::check_sizes), using(crate::proofs::BlockLaws::block_range))]
+    #[tactic(auto, using(crate::proofs::BlockLaws::block_range))]
     fn check_sizes(&self, kind: RegionKind, lim: &EntryLimits) -> Result<(), MetaError>
         ensures { result ≡ check_sizes self.now kind lim.now }
     {
@@ -653,7 +657,11 @@ impl RawEntry {
         let block = block_size(lim.log2_block);
         let start = (self.span_start - self.span_start % block).max(lim.table_end);
         let end = whole_up(self.span_end, block).min(lim.file_len);
-        if start < end { Some((start, end)) } else { None }
+        if start < end {
+            Some((start, end))
+        } else {
+            None
+        }
     }
 }
 
@@ -796,12 +804,19 @@ fn check_own(e: &[u8; ENTRY2_LEN], next_seq: u32) -> Result<(), MetaError>
 
 /// Whether one of the entries has this sequence number. They are scanned by eights: a scan of a constant length compiles to a row of
 /// comparisons.
+#[tactic(auto, using(crate::proofs::PageLaws::any_eights))]
 fn shares(entries: &[[u8; ENTRY2_LEN]], number: u32) -> bool
     ensures { result ≡ shares number entries.now }
 {
     let (eights, rest) = entries.as_chunks::<8>();
-    eights.iter().any(|eight| eight.iter().any(|e| seq(e) == number))
-        || rest.iter().any(|e| seq(e) == number)
+    eights.iter().any(|eight| one_of(eight, number)) || one_of(rest, number)
+}
+
+/// The same, an entry a step.
+fn one_of(entries: &[[u8; ENTRY2_LEN]], number: u32) -> bool
+    ensures { result ≡ shares number entries.now }
+{
+    entries.iter().any(|e| seq(e) == number)
 }
 
 /// An entry's sequence number.
@@ -812,7 +827,7 @@ fn seq(e: &[u8; ENTRY2_LEN]) -> u32
 }
 
 /// Encodes a page of entries as they are stored, but for zeros at 38, and returns the payload's length. A refusal keeps `out`.
-#[tactic(auto, unfolding(crate::specs::Page::encode_page, crate::specs::Page::page_bytes, crate::specs::Page::header_bytes))]
+#[tactic(auto, unfolding(crate::specs::Page::encode_page, crate::specs::Page::page_bytes), using(crate::proofs::PageLaws::header_fits))]
 pub fn encode_page(
     out: &mut [u8],
     h: &PageHeader,
@@ -830,7 +845,7 @@ pub fn encode_page(
     if out.len() < len {
         return Err(MetaError::Length);
     }
-    let Some(_) = h.write(&mut out[..PAGE_HEADER_LEN]) else {
+    let Some(_) = h.write(out) else {
         return Err(MetaError::Length);
     };
     write_entries(&mut out[PAGE_HEADER_LEN..len], entries);
@@ -856,3 +871,36 @@ fn write_entry(place: &mut [u8], entry: &[u8; ENTRY2_LEN])
     place.copy_from_slice(entry);
     place[38..40].fill(0);
 }
+
+/// Does nothing: its contract is the layouts of the volume record, of entries and of a page's header, by offsets.
+#[tactic(auto, using(crate::proofs::LayoutLaws::base_layout, crate::proofs::LayoutLaws::tail_layout, crate::proofs::LayoutLaws::entry_layout, crate::proofs::LayoutLaws::header_layout))]
+pub fn layout_law()
+    ensures base { BaseLayout }
+    ensures tail { TailLayout }
+    ensures entry { EntryLayout }
+    ensures header { HeaderLayout }
+{}
+
+/// Does nothing: its contract is the round trip of volume records.
+#[tactic(auto, using(crate::proofs::VolumeLaws::volumes_back))]
+pub fn volumes_back()
+    ensures { VolumesBack }
+{}
+
+/// Does nothing: its contract is the round trip of entries.
+#[tactic(auto, using(crate::proofs::EntryLaws::entries_back))]
+pub fn entries_back()
+    ensures { EntriesBack }
+{}
+
+/// Does nothing: its contract is the round trip of pages.
+#[tactic(auto, using(crate::proofs::PageLaws::pages_back))]
+pub fn pages_back()
+    ensures { PagesBack }
+{}
+
+/// Does nothing: its contract is the table of all places and numbers.
+#[tactic(auto, using(crate::proofs::TableLaws::table))]
+pub fn table_law()
+    ensures { Table }
+{}

@@ -1,0 +1,5 @@
+use Rattle.meta.proofs.PageLaws.{zeroed}
+use Rattle.meta.proofs.meta2.write_entry.Goals as goal
+
+pub returns : goal.returns
+returns c = zeroed _ _ _ c.copy_from_slice.ensures.after (c.fill.ensures.after (λ y same. same)) c.told-entry
