@@ -5,10 +5,9 @@ use Rattle.std.specs.Int.{w32, w64, to_le_bytes}
 use Rattle.slot.specs.Status.{code}
 use Rattle.slot.specs.declared.slot.SlotStatus.{SlotStatus}
 use Rattle.slot.specs.declared.slot.HeaderFacts.{HeaderFacts}
-use Rattle.slot.specs.declared.slot.NumberedHeader.{NumberedHeader}
 use Rattle.judge.specs.declared.pairs.Version.{Version}
 use Rattle.judge.specs.declared.part.SlotPart.{SlotPart}
-use Rattle.judge.specs.Part.{part_of, part_bytes, part_at, part_shown, is_in_range, facts_number, header_number}
+use Rattle.judge.specs.Part.{part_of, part_bytes, part_at, part_shown, is_in_range, facts_number}
 use Rattle.judge.specs.Records.{shown_of}
 use Rattle.judge.specs.Same.{filled, NothingGiven, ChecksumGiven, VersionFits}
 

@@ -83,12 +83,12 @@ impl Verdicts for VerdictBytes<'_> {
 
     ghost place = { λ s. s.0.ghost_name };
 
-    #[tactic(auto, using(crate::proofs::CellLaws::whole_cells))]
+    #[tactic(auto, using(crate::proofs::FrameLaws::whole_cells))]
     fn fits(&self, pairs: usize) -> bool {
         self.0.len() % VERDICT == 0 && self.0.len() / VERDICT == pairs
     }
 
-    #[tactic(auto, using(crate::proofs::CellLaws::length_cells, crate::proofs::CellLaws::cells_read))]
+    #[tactic(auto, using(crate::proofs::FrameLaws::length_cells, crate::proofs::FrameLaws::cells_read))]
     fn verdict(&self, i: usize) -> PairVerdict {
         let at = i * VERDICT;
         PairVerdict {
@@ -99,7 +99,7 @@ impl Verdicts for VerdictBytes<'_> {
         }
     }
 
-    #[tactic(auto, using(crate::proofs::CellLaws::length_cells, crate::proofs::CellLaws::cells_put))]
+    #[tactic(auto, using(crate::proofs::FrameLaws::length_cells, crate::proofs::FrameLaws::cells_put))]
     fn put(&mut self, i: usize, v: PairVerdict) {
         let at = i * VERDICT;
         self.0[at..at + VERDICT].copy_from_slice(&v.bytes());

@@ -55,7 +55,7 @@ pub struct PairVerdict {
 }
 
 // What the first pass counts.
-#[derive(Clone, Copy)]
+#[derive(Clone, Copy, Default)]
 pub struct Tally {
     // Candidates that qualify.
     pub candidates: usize,
