@@ -84,6 +84,7 @@ fn pair_of(frame: &[u8; FRAME]) -> PairRead
 
 // Judges the pairs that the frames stand for into the first `room` of the lent verdicts: 8 and 9 are the judge's errors, 10 is for no whole
 // frames and for more pairs or verdicts than were lent. Of the lent pairs the first are the records of the frames.
+#[tactic(auto, unfolding(crate::specs::Judged::judge_row, crate::specs::Judged::records_left, crate::specs::Judged::verdicts_left))]
 pub fn judge_row(
     frames: &[u8],
     clean: bool,
@@ -108,6 +109,7 @@ pub fn judge_row(
 // ---- the verdicts in bytes
 
 // Writes all bytes of the verdicts, where as many are lent.
+#[tactic(auto, unfolding(crate::specs::Judged::bytes_left), using(crate::proofs::RecordLaws::written))]
 pub fn put_verdicts(verdicts: &[PairVerdict], out: &mut [u8])
     ensures { out.new ≡ bytes_left verdicts.now out.old }
 {
