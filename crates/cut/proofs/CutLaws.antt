@@ -1,24 +1,26 @@
 -- The slot that a cut write left, by its header: the new one, the old one, or one whose magic stands and which fails its checksum. That
 -- is the only place where the number of bytes counts.
-use Rattle.std.proofs.Common.{◌≡◌, refl, sym, ap, ◌∙◌, ◌⊎◌, inl, inr, Bool, true, false, ◌||◌, cond, List, ◌++◌, ℕ, ◌+◌, ◌≤◌, arith, eqb-true, ltb, eqb, length, take, drop, length-append, length-take, length-drop, take-take, length-take-le}
+use Rattle.std.proofs.Common.{◌≡◌, refl, sym, ap, ◌∙◌, ◌⊎◌, inl, inr, Bool, true, false, ◌==◌, nat_eq, List, ◌++◌, ℕ, ◌+◌, ◌≤◌, arith, eqb-true, length, take, drop, length-append, length-take, length-drop, take-take, length-take-le}
 use Rattle.std.proofs.Math.Seq.{take-append-le}
-use Rattle.codec.specs.Bytes.{AllBytes, le16, le32, same}
-use Rattle.codec.proofs.CursorLaws.{take-bytes, drop-bytes, append-bytes}
-use Rattle.codec.proofs.RunLaws.{same_true}
-use Rattle.slot.specs.Read.{magic, headerSum}
+use lib.Pointwise.{pointwise, bytes_decides}
+use Rattle.codec.specs.Bytes.{AllBytes, le16, le32}
+use Rattle.codec.proofs.ByteLaws.{take-bytes, drop-bytes, append-bytes}
+use Rattle.slot.specs.Header.{magic}
+use Rattle.slot.specs.Read.{header_sum}
+use Rattle.slot.proofs.Tests.{both}
 use Rattle.cut.specs.Cut.{cut, CutPoint, stands_whole, header_passes, Accident}
 use Rattle.cut.specs.Laws.{FailedSum, FailedPayload}
-use Rattle.cut.proofs.StatusLaws.{false_true, same_is}
+use Rattle.cut.proofs.StatusLaws.{false_true}
 
-pub not_same : (s t : List ℕ) → (s ≡ t → ⊥) → same s t ≡ false
-not_same s t differ = go (same s t) refl
+pub not_same : (s t : List ℕ) → (s ≡ t → ⊥) → pointwise nat_eq s t ≡ false
+not_same s t differ = go (pointwise nat_eq s t) refl
   where
-    go : (test : Bool) → same s t ≡ test → same s t ≡ false
-    go true is = absurd (differ (same_true s t is))
+    go : (test : Bool) → pointwise nat_eq s t ≡ test → pointwise nat_eq s t ≡ false
+    go true is = absurd (differ ((bytes_decides s t).0 is))
     go false is = is
 
-pub differ : (s t : List ℕ) → same s t ≡ false → s ≡ t → ⊥
-differ s t not_equal is = false_true {A = ⊥} not_equal (same_is s t is)
+pub differ : (s t : List ℕ) → pointwise nat_eq s t ≡ false → s ≡ t → ⊥
+differ s t not_equal is = false_true {A = ⊥} not_equal ((bytes_decides s t).1 is)
 
 -- ---- the cut's bytes
 
@@ -59,18 +61,18 @@ pub data Header (s old new : List ℕ) : Type 0 where
   fails : (take 128 s ≡ take 128 new → ⊥) → take 8 s ≡ magic → header_passes s ≡ false → Header s old new
 
 header_of : (s old new payload : List ℕ) → (Accident s old new payload → ⊥) → (s ≡ old) ⊎ (take 8 s ≡ magic) → Header s old new
-header_of s old new payload none = go (same (take 128 s) (take 128 new)) refl
+header_of s old new payload none = go (pointwise nat_eq (take 128 s) (take 128 new)) refl
   where
-    by_old : (test : Bool) → same (take 128 s) (take 128 old) ≡ test → (take 128 s ≡ take 128 new → ⊥) → header_passes s ≡ true → Header s old new
-    by_old true is not_new passes = is_old not_new (same_true (take 128 s) (take 128 old) is)
+    by_old : (test : Bool) → pointwise nat_eq (take 128 s) (take 128 old) ≡ test → (take 128 s ≡ take 128 new → ⊥) → header_passes s ≡ true → Header s old new
+    by_old true is not_new passes = is_old not_new ((bytes_decides (take 128 s) (take 128 old)).0 is)
     by_old false is not_new passes = absurd (none (Accident.header passes (differ (take 128 s) (take 128 old) is) not_new))
 
     by_sum : (test : Bool) → header_passes s ≡ test → (take 128 s ≡ take 128 new → ⊥) → take 8 s ≡ magic → Header s old new
-    by_sum true is not_new stands = by_old (same (take 128 s) (take 128 old)) refl not_new is
+    by_sum true is not_new stands = by_old (pointwise nat_eq (take 128 s) (take 128 old)) refl not_new is
     by_sum false is not_new stands = fails not_new stands is
 
-    go : (test : Bool) → same (take 128 s) (take 128 new) ≡ test → (s ≡ old) ⊎ (take 8 s ≡ magic) → Header s old new
-    go true is either = is_new (same_true (take 128 s) (take 128 new) is)
+    go : (test : Bool) → pointwise nat_eq (take 128 s) (take 128 new) ≡ test → (s ≡ old) ⊎ (take 8 s ≡ magic) → Header s old new
+    go true is either = is_new ((bytes_decides (take 128 s) (take 128 new)).0 is)
     go false is (inl kept) = is_old (differ (take 128 s) (take 128 new) is) (ap (take 128) kept)
     go false is (inr stands) = by_sum (header_passes s) refl (differ (take 128 s) (take 128 new) is) stands
 
@@ -79,18 +81,11 @@ pub cut_header : (k : ℕ) (new old payload : List ℕ) → length old ≡ lengt
 cut_header k new old payload sizes point stands none =
     header_of (cut k new old) old new payload none (old_or_magic k new old sizes point stands)
 
--- A header that passes has the sum that it stores,
-passed_sum : (s : List ℕ) → header_passes s ≡ true → headerSum s (le16 s 12) ≡ le32 s 8
-unfolding header_passes
-passed_sum s = go (ltb (le16 s 12) 128 || ltb (length s) (le16 s 12))
-  where
-    go : (out : Bool) → cond out false (eqb (headerSum s (le16 s 12)) (le32 s 8)) ≡ true → headerSum s (le16 s 12) ≡ le32 s 8
-    go true is = false_true refl is
-    go false is = eqb-true _ _ is
-
--- so that there is no accident where the sum of a header other than the new one is not the one that it stores.
+-- There is no accident where the sum of a header other than the new one is not the one that it stores.
 pub failed_sum : FailedSum
-failed_sum s old new payload not_new not_stored (Accident.header passes not_old other) = not_stored (passed_sum s passes)
+unfolding header_passes
+failed_sum s old new payload not_new not_stored (Accident.header passes not_old other) =
+    not_stored (eqb-true _ _ (both _ (header_sum s (le16 s 12) == le32 s 8) passes).1)
 failed_sum s old new payload not_new not_stored (Accident.payload same_header other passes) = not_new same_header
 
 -- Nor is there one where the payload's checksum is not the stored one under the new header.

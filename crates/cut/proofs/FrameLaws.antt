@@ -1,122 +1,110 @@
--- The frames filled from a store decode to its row of pairs, so that the judge over the frames is the judge over the row: what is read
--- from bytes fits its field, and no value is out of range.
-use Rattle.std.proofs.Common.{◌≡◌, refl, ap, Bool, true, false, cond, not, List, [], ◌∷◌, ℕ, suc, ◌*◌, ◌≤◌, ◌<◌, arith, eq-eqb, ne_eqb, length, take}
-use Rattle.codec.specs.Bytes.{AllBytes, le32, same, allZero, flag}
-use Rattle.codec.proofs.CursorLaws.{le-lt}
-use Rattle.slot.specs.Status.{validInfo}
-use Rattle.slot.specs.Read.{magic, header, info, lengthOk, parseHeader, payloadOk, status as status_by, validate, facts, headerFacts}
+-- The numbers of a store's frames fit their fields, since they are read from bytes. So the judge over the frames answers as the judge over
+-- the row of pairs.
+use Rattle.std.proofs.Common.{◌≡◌, refl, ◌∙◌, Bool, true, false, cond, not, List, [], ◌∷◌, ℕ, ◌*◌, ◌≤◌, arith, ne_eqb, eq-eqb, nat_lt, nat_le, ◌==◌, length, Some, None, Ok, is_ok, lit<}
+use Rattle.codec.specs.Bytes.{AllBytes}
+use Rattle.slot.specs.Status.{info}
+use Rattle.slot.specs.Header.{header}
+use Rattle.slot.specs.Read.{is_slot_length, is_blank, check, facts_read, validate, header_facts}
 use Rattle.slot.specs.declared.slot.Expect.{Expect}
-use Rattle.slot.specs.declared.slot.SlotInfo.{SlotInfo}
 use Rattle.slot.specs.declared.slot.SlotStatus.{SlotStatus}
-use Rattle.slot.specs.declared.slot.HeaderFacts.{HeaderFacts}
-use Rattle.slot.specs.declared.slot.Parsed.{Parsed}
-use Rattle.slot.proofs.StatusLaws.{Failure, parse-failed}
-use Rattle.frame.specs.Frame.{part_of}
-use Rattle.frame.proofs.PartLaws.{InfoFits, ValidFits, FactsFit, part-range, part-fits}
-use Rattle.verdict.specs.Verdict.{verdictBytes}
-use Rattle.verdict.specs.Judge.{refusedRow, verdicts, judgeRow}
-use Rattle.judge_frames.specs.Frames.{verdictWidth, judged, judgedBytes}
-use Rattle.verdict.specs.declared.verdict.Judged.{Judged}
-use Rattle.judge_frames.proofs.FilledLaws.{Filled, AllFilled, filled-judged, filled-bytes}
-use Rattle.cut.specs.Store.{Every, Slot, Pair, status, numbers_given, checksum_given, filled, slot_part, pair_part, parts, frames, Typed}
-use Rattle.cut.proofs.StatusLaws.{parse_passed, validate_cases}
+use Rattle.slot.proofs.HeaderLaws.{header_layout}
+use Rattle.judge.specs.Part.{version_of_facts, version_by}
+use Rattle.judge.specs.Judge.{verdicts, judgement}
+use Rattle.judge.specs.Frames.{verdict_width, row_bytes, judge_frames, frames_left}
+use Rattle.judge.specs.Records.{judge_records, records_left}
+use Rattle.judge.specs.Same.{VersionFits, AllFit, mark}
+use Rattle.judge.specs.declared.verdict.PairVerdict.{PairVerdict}
+use Rattle.judge.proofs.SameLaws.{framed_error, answer-is, verdicts-are}
+use Rattle.cut.specs.Store.{Every, Pair, framed, reads, shown, frames, Typed}
+use Rattle.cut.proofs.ByteLaws.{le32_lt, le64_lt}
+use Rattle.cut.proofs.StatusLaws.{valid_is}
 
 -- ---- what is read from bytes fits
 
+zeros_fit : VersionFits (version_of_facts None)
+zeros_fit = record { generation = lit< tt; number = lit< tt; own = lit< tt; prev = lit< tt }
+
 module _ (s : List ℕ) (e : Expect) (all : AllBytes s) where
-  header_fits : InfoFits (info (header s))
-  header_fits = record { generation = le-lt 8 s 56 all; number = le-lt 8 s 96 all; own = le-lt 4 s 8 all; prev = le-lt 4 s 80 all }
-
-  passed_fits : (i : SlotInfo) (crc : ℕ) → parseHeader s e ≡ Parsed.Passed i crc → InfoFits i
-  passed_fits i crc parse = rw (parse_passed s e i crc parse).info_is header_fits
-
-  valid_fits : ValidFits (validInfo (validate s e))
-  valid_fits =
-      validate_cases s e (validate s e) (ValidFits (validInfo (validate s e))) refl
-      (λ is. rw (← is) ValidFits.nothing)
-      (λ length_is zeros_is is. rw (← is) ValidFits.nothing)
-      (λ length_is is. rw (← is) (by_header (parseHeader s e) refl))
+  facts_fit : VersionFits (version_of_facts (header_facts s e))
+  unfolding header_facts
+  facts_fit = rw (header_layout s) (go (is_slot_length (length s) e.log2_slot_size) (is_blank s) (nat_lt (length s) 128))
     where
-      by_payload : (ok : Bool) (i : SlotInfo) → InfoFits i → ValidFits (validInfo (cond ok (SlotStatus.Valid i) SlotStatus.BadPayloadCrc))
-      by_payload true i fits = ValidFits.valid fits
-      by_payload false i fits = ValidFits.nothing
+      stored_fits : (stands passed : Bool) → VersionFits (version_of_facts
+          (cond (not stands) None
+          (Some (record {
+            stored_header_crc32c = (header s).header_crc32c;
+            numbered =
+                cond passed
+                (Some (record { generation = (header s).generation; meta_seq = (header s).meta_seq; prev_header_crc32c = (header s).prev_header_crc32c }))
+                None;
+          }))))
+      stored_fits false passed = zeros_fit
+      stored_fits true false = record { generation = lit< tt; number = lit< tt; own = le32_lt s all 8; prev = lit< tt }
+      stored_fits true true =
+          record { generation = le64_lt s all 56; number = le64_lt s all 96; own = le32_lt s all 8; prev = le32_lt s all 80 }
 
-      by_failure : (f : SlotStatus) → Failure f → ValidFits (validInfo f)
-      by_failure f (Failure.failure from_1 not_blank not_valid) = rw not_valid ValidFits.nothing
+      go : (long zeros past : Bool) → VersionFits (version_of_facts
+          (cond (not long) None (cond zeros None (facts_read s e (cond past None (Some (header s)))))))
+      go false zeros past = zeros_fit
+      go true true past = zeros_fit
+      go true false true = zeros_fit
+      go true false false = stored_fits _ (is_ok (check s (header s) e))
 
-      by_header : (answer : Parsed) → parseHeader s e ≡ answer → ValidFits (validInfo (status_by s answer))
-      by_header (Parsed.Failed f) parse = by_failure f (parse-failed s e f parse)
-      by_header (Parsed.Passed i crc) parse = by_payload (payloadOk s i crc) i (passed_fits i crc parse)
-
-  facts_fit : FactsFit (headerFacts s e)
-  unfolding headerFacts
-  facts_fit = go (lengthOk (length s) e.log2_slot_size) (allZero (take 128 s)) (same (take 8 s) magic)
+  slot_fits : VersionFits (version_by (info (validate s e)) (header_facts s e))
+  slot_fits = go (validate s e) refl
     where
-      by_header : (answer : Parsed) → parseHeader s e ≡ answer → FactsFit (facts (le32 s 8) answer)
-      by_header (Parsed.Failed f) parse = FactsFit.stored (le-lt 4 s 8 all)
-      by_header (Parsed.Passed i crc) parse =
-          let fits = passed_fits i crc parse in
-          FactsFit.numbered (le-lt 4 s 8 all) fits.generation fits.number fits.prev
-
-      go : (long zeros stands : Bool)
-          → FactsFit
-          (cond (not long) HeaderFacts.Nothing
-          (cond zeros HeaderFacts.Nothing (cond (not stands) HeaderFacts.Nothing (facts (le32 s 8) (parseHeader s e)))))
-      go false zeros stands = FactsFit.nothing
-      go true true stands = FactsFit.nothing
-      go true false false = FactsFit.nothing
-      go true false true = by_header (parseHeader s e) refl
-
--- ---- a slot's part
-
-either_below : (test : Bool) {x y bound : ℕ} → x < bound → y < bound → cond test x y < bound
-either_below true first second = first
-either_below false first second = second
-
-slot_filled : (s : Slot) → Typed s → Filled (slot_part s)
-unfolding slot_part filled
-slot_filled s typed =
-    let facts = headerFacts s.bytes s.expect in
-    let given = part_of (status s) facts in
-    let fits = part-fits (status s) facts (valid_fits s.bytes s.expect typed.bytes) (facts_fit s.bytes s.expect typed.bytes) in
-    record {
-      fits =
-          record {
-            code = fits.code;
-            facts = fits.facts;
-            generation = either_below (numbers_given given) fits.generation typed.generation;
-            number = either_below (numbers_given given) fits.number typed.number;
-            own = either_below (checksum_given given) fits.own typed.own;
-            prev = either_below (numbers_given given) fits.prev typed.prev;
-          };
-      range = part-range (status s) facts;
-    }
-
--- ---- the row of frames
+      go : (status : SlotStatus) → validate s e ≡ status → VersionFits (version_by (info status) (header_facts s e))
+      go (SlotStatus.Valid i) is =
+          rw (valid_is s e i is).info_is
+          (record { generation = le64_lt s all 56; number = le64_lt s all 96; own = le32_lt s all 8; prev = le32_lt s all 80 })
+      go _ is = facts_fit
 
 pub record PairTyped (p : Pair) : Type 0 where
   pub a : Typed p.a
   pub b : Typed p.b
 
-row_filled : (ps : List Pair) → Every PairTyped ps → AllFilled (parts ps)
-unfolding pair_part
-row_filled [] typed = AllFilled.none
-row_filled (p ∷ ps) (Every.more first rest) = AllFilled.more (slot_filled p.a first.a) (slot_filled p.b first.b) (row_filled ps rest)
+row_fits : {ps : List Pair} → Every PairTyped ps → AllFit (framed ps)
+row_fits Every.none = tt
+row_fits (Every.more {x = p} typed rest) = (
+  record {
+    a = slot_fits p.a.bytes p.a.expect typed.a.bytes;
+    b = slot_fits p.b.bytes p.b.expect typed.b.bytes;
+    rest_a = record { generation = typed.a.generation; number = typed.a.number; own = typed.a.own; prev = typed.a.prev };
+    rest_b = record { generation = typed.b.generation; number = typed.b.number; own = typed.b.own; prev = typed.b.prev };
+  },
+  row_fits rest,
+)
 
-length_parts : (ps : List Pair) → length (parts ps) ≡ length ps
-length_parts [] = refl
-length_parts (p ∷ ps) = ap suc (length_parts ps)
+-- ---- nothing is refused
 
-pub not_refused : (n : ℕ) → 1 ≤ n → refusedRow n n ≡ 0
-unfolding refusedRow
-not_refused n some = let full : (n ≡ 0 → ⊥) = omega arith in simp (ne_eqb n 0 full, eq-eqb n n refl)
+length_reads : (ps : List Pair) → length (reads ps) ≡ length ps
+length_reads [] = refl
+length_reads (p ∷ ps) = simp (length_reads ps)
 
-module _ (ps : List Pair) (typed : Every PairTyped ps) (some : 1 ≤ length ps) (mark : Bool) (out : List ℕ) (room : length out ≡ length ps * verdictWidth) where
-  nothing_refused : refusedRow (length (parts ps)) (length ps) ≡ 0
-  nothing_refused = rw (length_parts ps) (not_refused (length ps) some)
+module _ (ps : List Pair) (some : 1 ≤ length ps) (clean : Bool) where
+  full : (length ps ≡ 0 → ⊥)
+  full = omega arith
 
-  pub judged_row : judged (frames ps) (flag mark) (length out) ≡ Judged.Done (judgeRow (parts ps) mark)
-  judged_row = simp (room, filled-judged (parts ps) (row_filled ps typed) mark (length ps), nothing_refused)
+  -- The mark as a byte is the mark.
+  mark_back : (clean : Bool) → (nat_le (mark clean) 1 ≡ true) × ((mark clean == 1) ≡ clean)
+  mark_back true = (refl, refl)
+  mark_back false = (refl, refl)
 
-  pub judged_bytes : judgedBytes (frames ps) (flag mark) out ≡ verdictBytes (verdicts (parts ps) mark)
-  judged_bytes = simp (filled-bytes (parts ps) (row_filled ps typed) mark out (length ps) room, nothing_refused)
+  pub row_judged : judge_records (reads ps) clean (length ps) ≡ Ok (judgement (shown ps) clean)
+  unfolding judge_records
+  row_judged = simp (length_reads ps, ne_eqb (length ps) 0 full, eq-eqb (length ps) (length ps) refl)
+
+  pub row_written : (rows : List PairVerdict) → length rows ≡ length ps → records_left (reads ps) clean rows ≡ verdicts (shown ps) clean
+  unfolding records_left
+  row_written rows room = simp (length_reads ps, room, ne_eqb (length ps) 0 full, eq-eqb (length ps) (length ps) refl)
+
+  module _ (typed : Every PairTyped ps) (out : List ℕ) (room : length out ≡ length ps * verdict_width) where
+    nothing_refused : framed_error (reads ps) (mark clean) (length out) ≡ None
+    nothing_refused =
+        simp (room, length_reads ps, ne_eqb (length ps) 0 full, eq-eqb (length ps * verdict_width) (length ps * verdict_width) refl, (mark_back clean).0)
+
+    pub judged_row : judge_frames (frames ps) (mark clean) (length out) ≡ Ok (judgement (shown ps) clean)
+    judged_row = answer-is (framed ps) (row_fits typed) (mark clean) (length out) ∙ simp (nothing_refused, (mark_back clean).1)
+
+    pub judged_bytes : frames_left (frames ps) (mark clean) out ≡ row_bytes (verdicts (shown ps) clean)
+    judged_bytes = verdicts-are (framed ps) (row_fits typed) (mark clean) out ∙ simp (nothing_refused, (mark_back clean).1)

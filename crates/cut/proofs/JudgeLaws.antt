@@ -1,21 +1,20 @@
 -- The judge over a row in which every pair but one is settled, and that one's winner stands beside a slot that a crash explains: the
 -- second pass changes nothing, the store is writable, and only that slot can be healed.
-use Rattle.std.proofs.Common.{◌≡◌, refl, ap, ap₂, ◌∙◌, Bool, true, false, cond, List, [], ◌∷◌, ◌++◌, ℕ, ◌+◌, arith, length}
+use Rattle.std.proofs.Common.{◌≡◌, refl, ap, ap₂, ◌∙◌, Bool, true, false, cond, List, [], ◌∷◌, ◌++◌, ℕ, ◌+◌, arith, length, Option, Some, None}
+use Rattle.std.specs.Option.{option_or}
 use Rattle.slot.specs.Status.{other}
 use Rattle.slot.specs.declared.slot.SlotIndex.{SlotIndex}
-use Rattle.verdict.specs.Verdict.{standingBeside, winnerBeside, isInFlight, inFlight}
-use Rattle.verdict.specs.Judge.{firstVerdicts, volumeVerdict, candidates, anyTrouble, anyRefused, firstTally, cleanMark, storeRules, demoted, lastVerdicts, pairHeal, heal, writable, rowRules, verdicts, judgeRow}
-use Rattle.verdict.proofs.PassLaws.{or_nothing}
-use Rattle.candidate.specs.declared.pairs.PairPart.{PairPart}
-use Rattle.verdict.specs.declared.verdict.SlotVerdict.{SlotVerdict}
-use Rattle.verdict.specs.declared.verdict.Standing.{Standing}
-use Rattle.verdict.specs.declared.verdict.PairVerdict.{PairVerdict}
-use Rattle.verdict.specs.declared.verdict.Heal.{Heal}
+use Rattle.judge.specs.Verdict.{standing_beside, winner_beside, is_in_flight, in_flight}
+use Rattle.judge.specs.Judge.{first_verdicts, volume_verdict, candidates, any_trouble, any_refused, first_tally, mark_counts, demoted, last_verdicts, pair_heal, heal, row_rules, verdicts, judgement}
+use Rattle.judge.specs.declared.pairs.Pair.{Pair as ShownPair}
+use Rattle.judge.specs.declared.verdict.SlotVerdict.{SlotVerdict}
+use Rattle.judge.specs.declared.verdict.Standing.{Standing}
+use Rattle.judge.specs.declared.verdict.PairVerdict.{PairVerdict}
 use Rattle.cut.specs.Store.{Every}
 
 -- A pair is settled: its winner stands beside a slot that needs nothing.
 abbrev pub settled_verdict : SlotIndex → PairVerdict
-settled_verdict index = winnerBeside index SlotVerdict.Nothing
+settled_verdict index = winner_beside index SlotVerdict.Nothing
 
 pub data Settled : List PairVerdict → Type 0 where
   none : Settled []
@@ -24,25 +23,25 @@ pub data Settled : List PairVerdict → Type 0 where
 -- The verdict of a slot that a crash explains.
 pub data Explained : SlotVerdict → Type 0 where
   nothing : Explained SlotVerdict.Nothing
-  older_damaged : Explained SlotVerdict.OlderDamaged
-  in_flight : Explained SlotVerdict.InFlight
+  older : Explained SlotVerdict.OlderDamaged
+  torn : Explained SlotVerdict.InFlight
 
-pub explained_standing : {v : SlotVerdict} → Explained v → standingBeside v ≡ Standing.Confirmed
+pub explained_standing : {v : SlotVerdict} → Explained v → standing_beside v ≡ Standing.Confirmed
 explained_standing nothing = refl
-explained_standing older_damaged = refl
-explained_standing in_flight = refl
+explained_standing older = refl
+explained_standing torn = refl
 
-explained_flight : (index : SlotIndex) {v : SlotVerdict} → Explained v → inFlight (winnerBeside index v) ≡ isInFlight v
+explained_flight : (index : SlotIndex) {v : SlotVerdict} → Explained v → in_flight (winner_beside index v) ≡ is_in_flight v
 explained_flight SlotIndex.A nothing = refl
-explained_flight SlotIndex.A older_damaged = refl
-explained_flight SlotIndex.A in_flight = refl
+explained_flight SlotIndex.A older = refl
+explained_flight SlotIndex.A torn = refl
 explained_flight SlotIndex.B nothing = refl
-explained_flight SlotIndex.B older_damaged = refl
-explained_flight SlotIndex.B in_flight = refl
+explained_flight SlotIndex.B older = refl
+explained_flight SlotIndex.B torn = refl
 
 -- ---- settled pairs
 
-settled_flight : (index : SlotIndex) → inFlight (settled_verdict index) ≡ false
+settled_flight : (index : SlotIndex) → in_flight (settled_verdict index) ≡ false
 settled_flight SlotIndex.A = refl
 settled_flight SlotIndex.B = refl
 
@@ -50,38 +49,39 @@ settled_candidates : {vs : List PairVerdict} → Settled vs → candidates vs �
 settled_candidates none = refl
 settled_candidates (more {vs} index rest) = simp (settled_flight index, settled_candidates rest)
 
-settled_trouble : {vs : List PairVerdict} → Settled vs → anyTrouble vs ≡ false
+settled_trouble : {vs : List PairVerdict} → Settled vs → any_trouble vs ≡ false
 settled_trouble none = refl
 settled_trouble (more index rest) = settled_trouble rest
 
-settled_refused : {vs : List PairVerdict} → Settled vs → anyRefused vs ≡ false
+settled_refused : {vs : List PairVerdict} → Settled vs → any_refused vs ≡ false
 settled_refused none = refl
 settled_refused (more index rest) = settled_refused rest
 
-settled_none : (index : SlotIndex) (i : ℕ) → pairHeal i (settled_verdict index) ≡ Heal.Nothing
-unfolding pairHeal
+settled_none : (index : SlotIndex) (i : ℕ) → pair_heal i (settled_verdict index) ≡ None
 settled_none SlotIndex.A i = refl
 settled_none SlotIndex.B i = refl
 
-settled_heal : {vs : List PairVerdict} → Settled vs → (i : ℕ) → heal i vs ≡ Heal.Nothing
+or_none : (h : Option (ℕ × SlotIndex)) → option_or h None ≡ h
+or_none None = refl
+or_none (Some at) = refl
+
+settled_heal : {vs : List PairVerdict} → Settled vs → (i : ℕ) → heal i vs ≡ None
 settled_heal none i = refl
 settled_heal (more index rest) i = simp (settled_heal rest (i + 1), settled_none index i)
 
 -- Nothing in flight, or no reason to demote: the verdict stays.
-demoted_none : (demote : Bool) (v : PairVerdict) → inFlight v ≡ false → demoted demote v ≡ v
-unfolding demoted
+demoted_none : (demote : Bool) (v : PairVerdict) → in_flight v ≡ false → demoted demote v ≡ v
 demoted_none true v idle = simp idle
 demoted_none false v idle = refl
 
 demoted_kept : (v : PairVerdict) → demoted false v ≡ v
-unfolding demoted
 demoted_kept v = refl
 
-last_kept : (vs : List PairVerdict) → lastVerdicts false false vs ≡ vs
+last_kept : (vs : List PairVerdict) → last_verdicts false false vs ≡ vs
 last_kept [] = refl
 last_kept (v ∷ vs) = ap₂ (λ (x : PairVerdict) (xs : List PairVerdict). x ∷ xs) (demoted_kept v) (last_kept vs)
 
-settled_last : {vs : List PairVerdict} → Settled vs → (volume page : Bool) → lastVerdicts volume page vs ≡ vs
+settled_last : {vs : List PairVerdict} → Settled vs → (volume page : Bool) → last_verdicts volume page vs ≡ vs
 settled_last none volume page = refl
 settled_last (more index rest) volume page =
     ap₂ (λ (x : PairVerdict) (xs : List PairVerdict). x ∷ xs) (demoted_none volume (settled_verdict index) (settled_flight index)) (settled_last rest page page)
@@ -89,25 +89,25 @@ settled_last (more index rest) volume page =
 -- ---- one pair among settled ones
 
 module _ (v : PairVerdict) (behind : List PairVerdict) (settled_behind : Settled behind) where
-  row_candidates : {before : List PairVerdict} → Settled before → candidates (before ++ v ∷ behind) ≡ cond (inFlight v) 1 0
+  row_candidates : {before : List PairVerdict} → Settled before → candidates (before ++ v ∷ behind) ≡ cond (in_flight v) 1 0
   row_candidates none = rw (settled_candidates settled_behind)
   row_candidates (more {vs} index rest) = simp (settled_flight index) (row_candidates rest)
 
-  row_trouble : v.standing ≡ Standing.Confirmed → {before : List PairVerdict} → Settled before → anyTrouble (before ++ v ∷ behind) ≡ false
+  row_trouble : v.standing ≡ Standing.Confirmed → {before : List PairVerdict} → Settled before → any_trouble (before ++ v ∷ behind) ≡ false
   row_trouble confirmed none = simp (confirmed, settled_trouble settled_behind)
   row_trouble confirmed (more index rest) = row_trouble confirmed rest
 
-  row_refused : v.standing ≡ Standing.Confirmed → {before : List PairVerdict} → Settled before → anyRefused (before ++ v ∷ behind) ≡ false
+  row_refused : v.standing ≡ Standing.Confirmed → {before : List PairVerdict} → Settled before → any_refused (before ++ v ∷ behind) ≡ false
   row_refused confirmed none = simp (confirmed, settled_refused settled_behind)
   row_refused confirmed (more index rest) = row_refused confirmed rest
 
-  row_heal_at : {before : List PairVerdict} → Settled before → (i : ℕ) → heal i (before ++ v ∷ behind) ≡ pairHeal (i + length before) v
-  row_heal_at none i = rw (settled_heal settled_behind (i + 1)) (ap (λ (k : ℕ). pairHeal k v) (omega arith))
+  row_heal_at : {before : List PairVerdict} → Settled before → (i : ℕ) → heal i (before ++ v ∷ behind) ≡ pair_heal (i + length before) v
+  row_heal_at none i = rw (settled_heal settled_behind (i + 1)) (ap (λ (k : ℕ). pair_heal k v) (omega arith))
   row_heal_at (more index rest) i =
-      rw (settled_none index i) (or_nothing _ ∙ row_heal_at rest (i + 1) ∙ ap (λ (k : ℕ). pairHeal k v) (omega arith))
+      rw (settled_none index i) (or_none _ ∙ row_heal_at rest (i + 1) ∙ ap (λ (k : ℕ). pair_heal k v) (omega arith))
 
-  row_none_in_flight : inFlight v ≡ false → {before : List PairVerdict} → Settled before → (volume page : Bool)
-      → lastVerdicts volume page (before ++ v ∷ behind) ≡ before ++ v ∷ behind
+  row_none_in_flight : in_flight v ≡ false → {before : List PairVerdict} → Settled before → (volume page : Bool)
+      → last_verdicts volume page (before ++ v ∷ behind) ≡ before ++ v ∷ behind
   row_none_in_flight idle none volume page =
       ap₂ (λ (x : PairVerdict) (xs : List PairVerdict). x ∷ xs) (demoted_none volume v idle) (settled_last settled_behind page page)
   row_none_in_flight idle (more index rest) volume page =
@@ -115,7 +115,7 @@ module _ (v : PairVerdict) (behind : List PairVerdict) (settled_behind : Settled
       (row_none_in_flight idle rest page page)
 
   row_volume : v.standing ≡ Standing.Confirmed → {before : List PairVerdict} → Settled before
-      → (volumeVerdict (before ++ v ∷ behind)).standing ≡ Standing.Confirmed
+      → (volume_verdict (before ++ v ∷ behind)).standing ≡ Standing.Confirmed
   row_volume confirmed none = confirmed
   row_volume confirmed (more index rest) = refl
 
@@ -131,74 +131,73 @@ module _ (v : PairVerdict) (behind : List PairVerdict) (settled_behind : Settled
 -- ---- the judgement
 
 -- Of the slots beside the winner, only one in flight is healed.
-pub data Healed (at : ℕ) (index : SlotIndex) (v : SlotVerdict) : Heal → Type 0 where
-  none : Healed at index v Heal.Nothing
-  torn : v ≡ SlotVerdict.InFlight → Healed at index v (Heal.Slot at (other index))
+pub data Healed (at : ℕ) (index : SlotIndex) (v : SlotVerdict) : Option (ℕ × SlotIndex) → Type 0 where
+  none : Healed at index v None
+  slot : v ≡ SlotVerdict.InFlight → Healed at index v (Some (at, (other index)))
 
-healed : (at : ℕ) (index : SlotIndex) {v : SlotVerdict} → Explained v → Healed at index v (pairHeal at (winnerBeside index v))
-unfolding pairHeal
+healed : (at : ℕ) (index : SlotIndex) {v : SlotVerdict} → Explained v → Healed at index v (pair_heal at (winner_beside index v))
 healed at SlotIndex.A nothing = none
-healed at SlotIndex.A older_damaged = none
-healed at SlotIndex.A in_flight = torn refl
+healed at SlotIndex.A older = none
+healed at SlotIndex.A torn = slot refl
 healed at SlotIndex.B nothing = none
-healed at SlotIndex.B older_damaged = none
-healed at SlotIndex.B in_flight = torn refl
+healed at SlotIndex.B older = none
+healed at SlotIndex.B torn = slot refl
 
 -- The clean mark must not count where a write is in flight.
 module _ {before behind : List PairVerdict} (settled_before : Settled before) (settled_behind : Settled behind)
     (index : SlotIndex) {v : SlotVerdict} (explained : Explained v) (clean : Bool)
-    (unmarked : isInFlight v ≡ true → cleanMark clean (volumeVerdict (before ++ winnerBeside index v ∷ behind)) ≡ false)
-    (ps : List PairPart) (first : firstVerdicts ps ≡ before ++ winnerBeside index v ∷ behind) where
+    (unmarked : is_in_flight v ≡ true → mark_counts clean (volume_verdict (before ++ winner_beside index v ∷ behind)) ≡ false)
+    (ps : List ShownPair) (first : first_verdicts ps ≡ before ++ winner_beside index v ∷ behind) where
   abbrev vs : List PairVerdict
-  vs = before ++ winnerBeside index v ∷ behind
+  vs = before ++ winner_beside index v ∷ behind
 
-  confirmed : (winnerBeside index v).standing ≡ Standing.Confirmed
+  confirmed : (winner_beside index v).standing ≡ Standing.Confirmed
   confirmed = explained_standing explained
 
-  none_refused : anyRefused vs ≡ false
-  none_refused = row_refused (winnerBeside index v) behind settled_behind confirmed settled_before
+  none_refused : any_refused vs ≡ false
+  none_refused = row_refused (winner_beside index v) behind settled_behind confirmed settled_before
 
   -- One write in flight, and no other trouble: nothing is demoted.
-  module _ (flight : isInFlight v ≡ true) where
+  module _ (flight : is_in_flight v ≡ true) where
     one_candidate : candidates vs ≡ 1
     one_candidate =
-        row_candidates (winnerBeside index v) behind settled_behind settled_before
+        row_candidates (winner_beside index v) behind settled_behind settled_before
         ∙ ap (λ (b : Bool). cond b 1 0) (explained_flight index explained ∙ flight)
 
-    volume_stays : (rowRules ps clean).volume_demote ≡ false
-    unfolding rowRules storeRules firstTally
+    volume_stays : (row_rules ps clean).volume_demote ≡ false
+    unfolding row_rules first_tally
     volume_stays = simp (first, one_candidate, none_refused)
 
-    pages_stay : (rowRules ps clean).page_demote ≡ false
-    unfolding rowRules storeRules firstTally
+    pages_stay : (row_rules ps clean).page_demote ≡ false
+    unfolding row_rules first_tally
     pages_stay =
-        simp (first, unmarked flight, one_candidate, row_trouble (winnerBeside index v) behind settled_behind confirmed settled_before)
+        simp (first, unmarked flight, one_candidate, row_trouble (winner_beside index v) behind settled_behind confirmed settled_before)
 
-  pub row_verdicts : verdicts ps clean ≡ before ++ winnerBeside index v ∷ behind
+  pub row_verdicts : verdicts ps clean ≡ before ++ winner_beside index v ∷ behind
   unfolding verdicts
-  row_verdicts = ap (lastVerdicts (rowRules ps clean).volume_demote (rowRules ps clean).page_demote) first ∙ go (isInFlight v) refl
+  row_verdicts = ap (last_verdicts (row_rules ps clean).volume_demote (row_rules ps clean).page_demote) first ∙ go (is_in_flight v) refl
     where
-      go : (flight : Bool) → isInFlight v ≡ flight
-          → lastVerdicts (rowRules ps clean).volume_demote (rowRules ps clean).page_demote vs ≡ vs
+      go : (flight : Bool) → is_in_flight v ≡ flight
+          → last_verdicts (row_rules ps clean).volume_demote (row_rules ps clean).page_demote vs ≡ vs
       go false idle =
-          row_none_in_flight (winnerBeside index v) behind settled_behind (explained_flight index explained ∙ idle) settled_before
-          (rowRules ps clean).volume_demote (rowRules ps clean).page_demote
-      go true flight = ap₂ (λ (volume page : Bool). lastVerdicts volume page vs) (volume_stays flight) (pages_stay flight) ∙ last_kept vs
+          row_none_in_flight (winner_beside index v) behind settled_behind (explained_flight index explained ∙ idle) settled_before
+          (row_rules ps clean).volume_demote (row_rules ps clean).page_demote
+      go true flight = ap₂ (λ (volume page : Bool). last_verdicts volume page vs) (volume_stays flight) (pages_stay flight) ∙ last_kept vs
 
-  pub row_writable : (judgeRow ps clean).writable ≡ true
-  unfolding judgeRow writable
+  pub row_writable : (judgement ps clean).writable ≡ true
+  unfolding judgement
   row_writable =
       simp (
         row_verdicts,
         first,
         none_refused,
-        row_volume (winnerBeside index v) behind settled_behind confirmed settled_before,
+        row_volume (winner_beside index v) behind settled_behind confirmed settled_before,
       )
 
-  pub row_heal : Healed (length before) index v (judgeRow ps clean).heal
-  unfolding judgeRow
+  pub row_heal : Healed (length before) index v (judgement ps clean).heal
+  unfolding judgement
   row_heal =
-      let at_pair : heal 0 vs ≡ pairHeal (length before) (winnerBeside index v) =
-      row_heal_at (winnerBeside index v) behind settled_behind settled_before 0
-      ∙ ap (λ (k : ℕ). pairHeal k (winnerBeside index v)) (omega arith) in
+      let at_pair : heal 0 vs ≡ pair_heal (length before) (winner_beside index v) =
+      row_heal_at (winner_beside index v) behind settled_behind settled_before 0
+      ∙ ap (λ (k : ℕ). pair_heal k (winner_beside index v)) (omega arith) in
       rw (row_verdicts, at_pair) (healed (length before) index explained)

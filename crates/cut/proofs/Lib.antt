@@ -1,12 +1,11 @@
 pub mod ByteLaws
 pub mod StatusLaws
 pub mod FrameLaws
-pub mod RowLaws
 pub mod JudgeLaws
 pub mod PairLaws
 pub mod NumberLaws
 pub mod CutLaws
-pub mod StatementLaws
 pub mod WriteLaws
 pub mod WrittenPair
 pub mod Theorem
+pub mod StatementLaws

@@ -1,35 +1,46 @@
--- The laws of specs/Laws.antt on the marks, the frames and the read_back.
-use Rattle.std.proofs.Common.{◌≡◌, refl, sym, ap, ap₂, ◌∙◌, Bool, true, false, ◌||◌, cond, List, ◌++◌, ℕ, ◌+◌, ne_eqb, eqb, length, take, drop, Bor}
-use Rattle.codec.specs.Outcome.{Outcome, given, refusal}
+-- The laws of specs/Laws.antt on the marks, the frames and the read-back.
+use Rattle.std.proofs.Common.{◌≡◌, refl, sym, ap, ap₂, subst, ◌∙◌, Bool, true, false, cond, ◌==◌, List, ◌++◌, append_assoc, ℕ, ◌+◌, length, take, drop, Bor, Option, Some, None, Result, Ok, Err, get_or, get_or-take, get_or-drop, lit<, add-zero}
+use Rattle.std.specs.Int.{w8}
+use Rattle.codec.specs.Bytes.{le}
 use Rattle.codec.specs.Place.{Part}
-use Rattle.slot.specs.Status.{code, validInfo}
-use Rattle.slot.specs.Read.{payload, payloadStart, payloadLength, headerFacts}
+use Rattle.slot.specs.Status.{code}
+use Rattle.slot.specs.Read.{header_facts}
+use Rattle.slot.specs.Payload.{payload, payload_start, payload_length}
+use Rattle.slot.specs.declared.slot.Expect.{Expect}
 use Rattle.slot.specs.declared.slot.SlotIndex.{SlotIndex}
+use Rattle.slot.specs.declared.slot.SlotInfo.{SlotInfo}
 use Rattle.slot.specs.declared.slot.SlotStatus.{SlotStatus}
-use Rattle.slot.specs.declared.slot.ValidInfo.{ValidInfo}
 use Rattle.slot.specs.declared.slot.HeaderFacts.{HeaderFacts}
-use Rattle.pair.specs.Pair.{winnerInfo}
-use Rattle.pair.specs.declared.pair.WinnerInfo.{WinnerInfo}
-use Rattle.winner.specs.Winner.{WinnerPart}
-use Rattle.frame.specs.Frame.{partBy, part_of, partBytes}
-use Rattle.frame.specs.declared.frame.SlotPart.{SlotPart}
-use Rattle.volume.specs.Volume.{decodeVolume}
-use Rattle.volume.specs.declared.meta2.VolumeMeta2.{VolumeMeta2}
-use Rattle.volume.proofs.DecodeLaws.{volume-decoded}
-use Rattle.cut.specs.Store.{mark_by, clean_mark, Slot, Pair, slot_at, status, report, filled, slot_part, pair_part, frames}
+use Rattle.slot.specs.declared.slot.NumberedHeader.{NumberedHeader}
+use Rattle.pair.specs.Pair.{winner_info}
+use Rattle.pair.specs.Winner.{read_pair, WinnerPart}
+use Rattle.pair.specs.declared.pair.PairReport.{PairReport}
+use Rattle.judge.specs.Part.{version_of_header, version_of_facts, header_number, facts_number, part_of, part_bytes}
+use Rattle.judge.specs.declared.pairs.Version.{Version}
+use Rattle.judge.specs.Same.{filled}
+use Rattle.judge.specs.declared.part.SlotPart.{SlotPart}
+use Rattle.meta.specs.Volume.{decode_volume}
+use Rattle.meta.specs.declared.meta.MetaError.{MetaError}
+use Rattle.meta.specs.declared.meta2.VolumeMeta2.{VolumeMeta2}
+use Rattle.meta.proofs.VolumeLaws.{volume_decoded}
+use Rattle.cut.specs.Store.{mark_by, clean_mark, Slot, Pair, slot_at, status, report, frames}
 use Rattle.cut.specs.Cut.{is_empty, handed, PayloadIs}
-use Rattle.cut.specs.Laws.{UnmarkedRecord, UnmarkedStore, PageHanded, TornHanded, WholeHanded, NothingGiven, ChecksumGiven, zero_part, PairFrame, OnePayload}
+use Rattle.cut.specs.Laws.{UnmarkedRecord, UnmarkedStore, PageHanded, TornHanded, WholeHanded, zeros, PairFrame, OnePayload, HasSlots}
 use Rattle.cut.proofs.PairLaws.{last_is}
 
 -- ---- the store's mark
 
+byte_is : (s : List ℕ) (i : ℕ) → le w8 s i ≡ get_or s i 0
+unfolding le
+byte_is s i = simp (get_or-take 1 (drop i s) 0 0 (lit< tt), get_or-drop, add-zero)
+
 pub unmarked_record : UnmarkedRecord
-unmarked_record r zero = go (decodeVolume r) refl
+unmarked_record r zero = go (decode_volume r) refl
   where
-    go : (o : Outcome VolumeMeta2) → decodeVolume r ≡ o → mark_by o ≡ false
-    go (given volume) decoded =
-        ap (λ (v : VolumeMeta2). v.clean_close) (volume-decoded r decoded).is ∙ ap (λ (mark : ℕ). eqb mark 1) zero
-    go (refusal number) decoded = refl
+    go : (answer : Result VolumeMeta2 MetaError) → decode_volume r ≡ answer → mark_by answer ≡ false
+    go (Ok volume) decoded =
+        ap (λ (v : VolumeMeta2). v.clean_close) (volume_decoded r volume decoded).is ∙ ap (λ (mark : ℕ). mark == 1) (byte_is r 54 ∙ zero)
+    go (Err error) decoded = refl
 
 pub unmarked_store : UnmarkedStore
 unmarked_store p ps sound zero = ap clean_mark (last_is p sound) ∙ unmarked_record (payload sound.info (slot_at sound.newer p).bytes) zero
@@ -54,45 +65,32 @@ whole_handed w before stands = rw (before, stands) refl
 
 -- ---- the frames
 
-pub nothing_given : NothingGiven
-unfolding filled
-nothing_given rest c not_valid = simp (ne_eqb _ _ not_valid)
-
-pub checksum_alone : ChecksumGiven
-unfolding filled
-checksum_alone rest c own not_valid = simp (ne_eqb _ _ not_valid)
-
 -- With zeros in the other fields a part is what `SlotPart::new` gives.
-filled_zeros : (st : SlotStatus) (f : HeaderFacts) → filled zero_part (part_of st f) ≡ part_of st f
-unfolding filled
-filled_zeros st f = by_info (code st) f (validInfo st)
+filled_zeros : (st : SlotStatus) (f : Option HeaderFacts) → filled zeros (part_of st f) ≡ part_of st f
+filled_zeros (SlotStatus.Valid i) f = unfold filled in refl
+filled_zeros st f = unfold filled in ap (λ (version : Version). record { code = code st; facts = facts_number f; version = version }) (by_facts f)
   where
-    either_zero : (test : Bool) → ◌≡◌ {A = ℕ} (cond test 0 0) 0
-    either_zero true = refl
-    either_zero false = refl
+    by_header : (stored : ℕ) (n : Option NumberedHeader)
+        → (filled zeros (record { code = 0; facts = header_number n; version = version_of_header stored n })).version ≡ version_of_header stored n
+    by_header stored None = unfold filled in refl
+    by_header stored (Some n) = unfold filled in refl
 
-    given_all : (test : Bool) → (test || true) ≡ true
-    given_all true = refl
-    given_all false = refl
+    by_facts : (f : Option HeaderFacts)
+        → (filled zeros (record { code = 0; facts = facts_number f; version = version_of_facts f })).version ≡ version_of_facts f
+    by_facts None = unfold filled in refl
+    by_facts (Some f) = by_header f.stored_header_crc32c f.numbered
 
-    by_info : (c : ℕ) (f : HeaderFacts) (i : ValidInfo) → filled zero_part (partBy c f i) ≡ partBy c f i
-    by_info c f (ValidInfo.Info i) = unfold filled in refl
-    by_info c HeaderFacts.Nothing ValidInfo.Nothing = unfold filled in simp either_zero
-    by_info c (HeaderFacts.Stored crc) ValidInfo.Nothing = unfold filled in simp (either_zero, given_all)
-    by_info c (HeaderFacts.Numbered crc n) ValidInfo.Nothing = unfold filled in simp given_all
-
-slot_zeros : (s : Slot) → s.rest ≡ zero_part → slot_part s ≡ part_of (status s) (headerFacts s.bytes s.expect)
-unfolding slot_part
-slot_zeros s zeros =
-    ap (λ (rest : SlotPart). filled rest (part_of (status s) (headerFacts s.bytes s.expect))) zeros
-    ∙ filled_zeros (status s) (headerFacts s.bytes s.expect)
+slot_zeros : (s : Slot) → s.rest ≡ zeros → filled s.rest (part_of (status s) (header_facts s.bytes s.expect)) ≡ part_of (status s) (header_facts s.bytes s.expect)
+slot_zeros s is =
+    ap (λ (rest : Version). filled rest (part_of (status s) (header_facts s.bytes s.expect))) is
+    ∙ filled_zeros (status s) (header_facts s.bytes s.expect)
 
 pub pair_frame : PairFrame
-unfolding pair_part
 pair_frame p ps a_zeros b_zeros =
-    ap₂ (λ (a b : SlotPart). partBytes a ++ (partBytes b ++ frames ps)) (slot_zeros p.a a_zeros) (slot_zeros p.b b_zeros)
+    ap₂ (λ (a b : SlotPart). (part_bytes a ++ part_bytes b) ++ frames ps) (slot_zeros p.a a_zeros) (slot_zeros p.b b_zeros)
+    ∙ append_assoc (part_bytes (part_of (status p.a) (header_facts p.a.bytes p.a.expect))) _ (frames ps)
 
--- ---- the read_back
+-- ---- the read-back
 
 -- Bytes lent in some block, and the part of n of them from k on.
 abbrev lent : ℕ → List ℕ → Bor (List ℕ)
@@ -106,22 +104,39 @@ lent_part_is block k n bytes = record { block = refl; offset = refl; bytes = ref
 
 -- Of every pair some part is read back, and so one record.
 module _ (p : Pair) {r s : List ℕ} (first : PayloadIs p r) (second : PayloadIs p s) where
-  by_part : (part : Bor (List ℕ)) → WinnerPart (winnerInfo (report p)) (lent 0 p.a.bytes) (lent 1 p.b.bytes) part → r ≡ s
+  by_part : (part : Bor (List ℕ)) → WinnerPart (winner_info (report p)) (lent 0 p.a.bytes) (lent 1 p.b.bytes) part → r ≡ s
   by_part part handed_back = sym (first _ _ part refl refl handed_back) ∙ second _ _ part refl refl handed_back
 
-  by_info : (info : WinnerInfo) → winnerInfo (report p) ≡ info → r ≡ s
-  by_info WinnerInfo.Nothing is = by_part (lent_part 0 0 0 p.a.bytes) (rw is (lent_part_is 0 0 0 p.a.bytes))
-  by_info (WinnerInfo.Won SlotIndex.A i) is =
-      let start = payloadStart i (length p.a.bytes) in
-      let len = payloadLength i (length p.a.bytes) in
+  by_info : (info : Option (SlotIndex × SlotInfo)) → winner_info (report p) ≡ info → r ≡ s
+  by_info None is = by_part (lent_part 0 0 0 p.a.bytes) (rw is (lent_part_is 0 0 0 p.a.bytes))
+  by_info (Some (SlotIndex.A, i)) is =
+      let start = payload_start i (length p.a.bytes) in
+      let len = payload_length i (length p.a.bytes) in
       by_part (lent_part 0 start len p.a.bytes) (rw is (lent_part_is 0 start len p.a.bytes))
-  by_info (WinnerInfo.Won SlotIndex.B i) is =
-      let start = payloadStart i (length p.b.bytes) in
-      let len = payloadLength i (length p.b.bytes) in
+  by_info (Some (SlotIndex.B, i)) is =
+      let start = payload_start i (length p.b.bytes) in
+      let len = payload_length i (length p.b.bytes) in
       by_part (lent_part 1 start len p.b.bytes) (rw is (lent_part_is 1 start len p.b.bytes))
 
   same_record : r ≡ s
-  same_record = by_info (winnerInfo (report p)) refl
+  same_record = by_info (winner_info (report p)) refl
 
 pub one_payload : OnePayload
 one_payload p r s first second = same_record p first second
+
+-- Two parts that are handed back of the same slots hold the same.
+parts_same : (info : Option (SlotIndex × SlotInfo)) (a b x a' b' y : Bor (List ℕ)) → a.now ≡ a'.now → b.now ≡ b'.now
+    → WinnerPart info a b x → WinnerPart info a' b' y → x.now ≡ y.now
+parts_same None a b x a' b' y a_is b_is first second = first.bytes ∙ sym second.bytes
+parts_same (Some (SlotIndex.A, i)) a b x a' b' y a_is b_is first second =
+    first.bytes ∙ ap (λ (s : List ℕ). take (payload_length i (length s)) (drop (payload_start i (length s)) s)) a_is ∙ sym second.bytes
+parts_same (Some (SlotIndex.B, i)) a b x a' b' y a_is b_is first second =
+    first.bytes ∙ ap (λ (s : List ℕ). take (payload_length i (length s)) (drop (payload_start i (length s)) s)) b_is ∙ sym second.bytes
+
+-- So what `winner_payload` hands back of a pair's slots is the pair's record.
+pub handed_back : (p : Pair) (a b part : Bor (List ℕ)) (expect_a expect_b : Expect) → HasSlots p a.now expect_a b.now expect_b
+    → WinnerPart (winner_info (read_pair a.now expect_a b.now expect_b)) a b part → PayloadIs p part.now
+handed_back p a b part expect_a expect_b slots handed a' b' part' a_is b_is handed' =
+    let report_is : report p ≡ read_pair a.now expect_a b.now expect_b = cc (slots.bytes_a, slots.expect_a, slots.bytes_b, slots.expect_b) in
+    parts_same (winner_info (report p)) a' b' part' a b part (a_is ∙ slots.bytes_a) (b_is ∙ slots.bytes_b) handed'
+    (subst (λ (r : PairReport). WinnerPart (winner_info r) a b part) (sym report_is) handed)

@@ -1,26 +1,24 @@
 -- The cut theorem: every pair but the written one is as it was and settled, the written one's winner stands beside a slot that a crash
 -- explains, and so the judge's second pass changes nothing.
-use Rattle.std.proofs.Common.{◌≡◌, refl, sym, ap, ap₂, subst, ◌∙◌, ◌⊎◌, inl, inr, Bool, true, false, cond, List, [], ◌∷◌, ◌++◌, ℕ, suc, ◌+◌, ◌*◌, ◌≤◌, arith, length, length-append}
+use Rattle.std.proofs.Common.{◌≡◌, refl, sym, ap, ap₂, subst, ◌∙◌, ◌⊎◌, inl, inr, Bool, true, false, ◌&&◌, cond, List, [], ◌∷◌, ◌++◌, ℕ, suc, ◌+◌, ◌*◌, ◌≤◌, arith, length, length-append, Option, Some, None}
+use mathlib.Core.Bool.{and-false}
 use Rattle.codec.specs.Bytes.{AllBytes}
 use Rattle.slot.specs.Status.{other}
 use Rattle.slot.specs.declared.slot.SlotIndex.{SlotIndex}
-use Rattle.frame.specs.declared.frame.SlotPart.{SlotPart}
-use Rattle.candidate.specs.Pairs.{numbered, pairCase}
-use Rattle.candidate.specs.Numbers.{slots, number, qualifies}
-use Rattle.verdict.specs.Verdict.{verdictBytes, winnerBeside, pairVerdict, isInFlight}
-use Rattle.verdict.specs.Judge.{verdictsFrom, firstVerdicts, volumeVerdict, cleanMark as mark_counts, verdicts, judgeRow}
-use Rattle.candidate.specs.declared.pairs.MetaSeq.{MetaSeq}
-use Rattle.verdict.specs.declared.verdict.SlotVerdict.{SlotVerdict}
-use Rattle.verdict.specs.declared.verdict.PairVerdict.{PairVerdict}
-use Rattle.verdict.specs.declared.verdict.Heal.{Heal}
-use Rattle.judge_frames.specs.Frames.{verdictWidth}
-use Rattle.cut.specs.Store.{Every, Slot, Pair, pair_part, parts, last_record, last_records, Typed, SoundPair, Sound}
+use Rattle.judge.specs.Pairs.{pair_case}
+use Rattle.judge.specs.Numbers.{slots, qualifies}
+use Rattle.judge.specs.Verdict.{winner_beside, pair_verdict, is_in_flight}
+use Rattle.judge.specs.Judge.{verdicts_from, first_verdicts, volume_verdict, mark_counts, verdicts, judgement}
+use Rattle.judge.specs.Frames.{verdict_width, row_bytes}
+use Rattle.judge.specs.declared.pairs.Shown.{Shown}
+use Rattle.judge.specs.declared.verdict.SlotVerdict.{SlotVerdict}
+use Rattle.judge.specs.declared.verdict.PairVerdict.{PairVerdict}
+use Rattle.cut.specs.Store.{Every, Slot, Pair, shown, last_record, last_records, Typed, SoundPair, Sound}
 use Rattle.cut.specs.Cut.{Write, store, size, old, new, left, with_bytes, with_slot, after, CutPoint, CorrectWrite, whole, Accident, is_empty, handed, ReadBack, AllReadBack, Survives, CutTheorem}
 use Rattle.cut.proofs.StatusLaws.{false_true}
 use Rattle.cut.proofs.JudgeLaws.{settled_verdict, Settled, Explained, explained_standing, Healed, row_confirmed, row_verdicts, row_writable, row_heal}
-use Rattle.cut.proofs.FrameLaws.{PairTyped, judged_row, judged_bytes}
-use Rattle.cut.proofs.RowLaws.{row_judged, row_written}
-use Rattle.cut.proofs.PairLaws.{part_at, Stands, sound_stands, sound_number}
+use Rattle.cut.proofs.FrameLaws.{PairTyped, row_judged, row_written, judged_row, judged_bytes}
+use Rattle.cut.proofs.PairLaws.{shown_pair, number_at, Stands, sound_stands, sound_number}
 use Rattle.cut.proofs.NumberLaws.{place_of, write_qualifies}
 use Rattle.cut.proofs.CutLaws.{cut_bytes, length_cut, Header, cut_header}
 use Rattle.cut.proofs.WriteLaws.{other_other, newer_is, old_size, new_size, new_bytes, new_magic}
@@ -43,19 +41,19 @@ length_verdicts Every.none = refl
 length_verdicts (Every.more sound rest) = ap suc (length_verdicts rest)
 
 -- The rule for the slots of the ith pair.
-abbrev rule_at : List SlotPart → ℕ → SlotIndex → MetaSeq → Bool
+abbrev rule_at : List Shown → ℕ → SlotIndex → Option ℕ → Bool
 rule_at all i index = qualifies all (place_of index i)
 
-sound_first : (all : List SlotPart) (i : ℕ) {ps : List Pair} (sound : Every SoundPair ps) → verdictsFrom all i (parts ps) ≡ sound_verdicts sound
+sound_first : (all : List Shown) (i : ℕ) {ps : List Pair} (sound : Every SoundPair ps) → verdicts_from all i (shown ps) ≡ sound_verdicts sound
 unfolding sound_verdicts
 sound_first all i Every.none = refl
 sound_first all i (Every.more {x = p} sound rest) =
     ap₂ (λ (v : PairVerdict) (vs : List PairVerdict). v ∷ vs) (sound_stands p sound (rule_at all i)).verdict (sound_first all (suc i) rest)
 
-module _ (all : List SlotPart) (p : Pair) {behind : List Pair} (sound_behind : Every SoundPair behind) where
+module _ (all : List Shown) (p : Pair) {behind : List Pair} (sound_behind : Every SoundPair behind) where
   row_first : (i n : ℕ) {before : List Pair} (sound_before : Every SoundPair before) → n ≡ i + length before
-      → verdictsFrom all i (parts (before ++ p ∷ behind))
-      ≡ sound_verdicts sound_before ++ pairVerdict (rule_at all n) (pairCase (pair_part p)) ∷ sound_verdicts sound_behind
+      → verdicts_from all i (shown (before ++ p ∷ behind))
+      ≡ sound_verdicts sound_before ++ pair_verdict (rule_at all n) (pair_case (shown_pair p)) ∷ sound_verdicts sound_behind
   unfolding sound_verdicts
   row_first i n Every.none is =
       let here : n ≡ i = omega arith in
@@ -65,8 +63,8 @@ module _ (all : List SlotPart) (p : Pair) {behind : List Pair} (sound_behind : E
       (row_first (suc i) n rest (omega arith))
 
 -- What is read back of a pair whose winner stands.
-stands_back : {p : Pair} {rule : SlotIndex → MetaSeq → Bool} {w : SlotIndex} {v : SlotVerdict} {r : List ℕ} → Stands p rule w v r
-    → ReadBack p (winnerBeside w v) r
+stands_back : {p : Pair} {rule : SlotIndex → Option ℕ → Bool} {w : SlotIndex} {v : SlotVerdict} {r : List ℕ} → Stands p rule w v r
+    → ReadBack p (winner_beside w v) r
 stands_back {w = w} stands =
     record { index = w; info = stands.info; named = refl; won = stands.won; part = stands.part; accepted = stands.accepted }
 
@@ -113,30 +111,24 @@ written_typed : (index : SlotIndex) (bytes : List ℕ) {p : Pair} → PairTyped 
 written_typed SlotIndex.A bytes {p} typed all = record { a = bytes_typed p.a bytes typed.a all; b = typed.b }
 written_typed SlotIndex.B bytes {p} typed all = record { a = typed.a; b = bytes_typed p.b bytes typed.b all }
 
-kept_part : (index : SlotIndex) (bytes : List ℕ) (p : Pair) → part_at (other index) (pair_part (with_slot index bytes p)) ≡ part_at (other index) (pair_part p)
-unfolding pair_part
-kept_part SlotIndex.A bytes p = refl
-kept_part SlotIndex.B bytes p = refl
+kept_number : (index : SlotIndex) (bytes : List ℕ) (p : Pair) → number_at (other index) (with_slot index bytes p) ≡ number_at (other index) p
+kept_number SlotIndex.A bytes p = refl
+kept_number SlotIndex.B bytes p = refl
 
 -- ---- the mark that is handed over counts for nothing where a write is in flight
 
-flight_unmarked : (mark : Bool) (index : SlotIndex) {v : SlotVerdict} → Explained v → isInFlight v ≡ true → mark_counts mark (winnerBeside index v) ≡ false
-unfolding mark_counts
-flight_unmarked mark SlotIndex.A Explained.in_flight flight = refl
-flight_unmarked mark SlotIndex.B Explained.in_flight flight = refl
+flight_unmarked : (mark : Bool) (index : SlotIndex) {v : SlotVerdict} → Explained v → is_in_flight v ≡ true → mark_counts mark (winner_beside index v) ≡ false
+flight_unmarked mark SlotIndex.A Explained.torn flight = and-false (mark && true)
+flight_unmarked mark SlotIndex.B Explained.torn flight = and-false (mark && true)
 flight_unmarked mark index Explained.nothing flight = false_true refl flight
-flight_unmarked mark index Explained.older_damaged flight = false_true refl flight
+flight_unmarked mark index Explained.older flight = false_true refl flight
 
 row_unmarked : {before : List Pair} (sound : Every SoundPair before) (mark : Bool) (index : SlotIndex) {v : SlotVerdict} (vs : List PairVerdict)
-    → Explained v → isInFlight v ≡ true
-    → mark_counts (cond (is_empty before) mark false) (volumeVerdict (sound_verdicts sound ++ winnerBeside index v ∷ vs)) ≡ false
+    → Explained v → is_in_flight v ≡ true
+    → mark_counts (cond (is_empty before) mark false) (volume_verdict (sound_verdicts sound ++ winner_beside index v ∷ vs)) ≡ false
 unfolding sound_verdicts
 row_unmarked Every.none mark index vs explained flight = flight_unmarked mark index explained flight
-row_unmarked (Every.more sound rest) mark index vs explained flight = page_unmarked sound.newer
-  where
-    page_unmarked : (index : SlotIndex) → mark_counts false (settled_verdict index) ≡ false
-    page_unmarked SlotIndex.A = unfold mark_counts in refl
-    page_unmarked SlotIndex.B = unfold mark_counts in refl
+row_unmarked (Every.more sound rest) mark index vs explained flight = refl
 
 -- ---- the pairs of the store
 
@@ -159,12 +151,12 @@ sound_pairs (Sound.row volume pages all) = all
 
 module _ (w : Write) (sound_before : Every SoundPair w.before) (sound : SoundPair w.pair) (sound_behind : Every SoundPair w.behind)
     (correct : CorrectWrite w) (point : CutPoint w.k (size w)) (none : Accident (left w) (old w) (new w) w.payload → ⊥)
-    (out : List ℕ) (room : length out ≡ length (store w) * verdictWidth) where
+    (out : List ℕ) (room : length out ≡ length (store w) * verdict_width) where
   abbrev p : Pair
   p = with_slot w.index (left w) w.pair
 
-  abbrev rule : SlotIndex → MetaSeq → Bool
-  rule = rule_at (slots (parts (after w))) (length w.before)
+  abbrev rule : SlotIndex → Option ℕ → Bool
+  rule = rule_at (slots (shown (after w))) (length w.before)
 
   sizes : length (old w) ≡ length (new w)
   sizes = old_size w sound correct ∙ sym (new_size w sound correct)
@@ -181,50 +173,43 @@ module _ (w : Write) (sound_before : Every SoundPair w.before) (sound : SoundPai
   left_header : Header (left w) (old w) (new w)
   left_header = cut_header w.k (new w) (old w) w.payload sizes point_new (new_magic w sound correct) none
 
-  number_at : SlotIndex → ℕ
-  number_at index = number (numbered (part_at index (pair_part w.pair)))
-
-  not_higher : number_at w.index ≤ number_at (other w.index)
-  unfolding number_at
+  not_higher : number_at w.index w.pair ≤ number_at (other w.index) w.pair
   not_higher =
-      subst (λ (index : SlotIndex). number_at index ≤ number_at (other w.index)) (other_other w.index)
-      (subst (λ (index : SlotIndex). number_at (other index) ≤ number_at index) (newer_is w sound correct) (sound_number w.pair sound))
+      subst (λ (index : SlotIndex). number_at index w.pair ≤ number_at (other w.index) w.pair) (other_other w.index)
+      (subst (λ (index : SlotIndex). number_at (other index) w.pair ≤ number_at index w.pair) (newer_is w sound correct) (sound_number w.pair sound))
 
-  qualified : rule w.index (MetaSeq.Number w.fields.meta_seq) ≡ true
-  unfolding number_at
+  qualified : rule w.index (Some w.fields.meta_seq) ≡ true
   qualified =
-      write_qualifies w.before w.pair p w.behind w.index
-      (ap (λ (s : SlotPart). number (numbered s)) (kept_part w.index (left w) w.pair))
-      not_higher w.fields.meta_seq correct.number
+      write_qualifies w.before w.pair p w.behind w.index (kept_number w.index (left w) w.pair) not_higher w.fields.meta_seq correct.number
 
   answer : PairAfter p rule w.index (cond (whole w) w.payload (last_record w.pair))
   answer = pair_after w sound correct (left w) left_size none rule (λ index. refl) qualified left_header
 
   abbrev vs : List PairVerdict
-  vs = sound_verdicts sound_before ++ winnerBeside answer.winner answer.verdict ∷ sound_verdicts sound_behind
+  vs = sound_verdicts sound_before ++ winner_beside answer.winner answer.verdict ∷ sound_verdicts sound_behind
 
-  first : firstVerdicts (parts (after w)) ≡ vs
-  unfolding firstVerdicts
+  first : first_verdicts (shown (after w)) ≡ vs
+  unfolding first_verdicts
   first =
-      row_first (slots (parts (after w))) p sound_behind 0 (length w.before) sound_before (omega arith)
+      row_first (slots (shown (after w))) p sound_behind 0 (length w.before) sound_before (omega arith)
       ∙ ap (λ (v : PairVerdict). sound_verdicts sound_before ++ v ∷ sound_verdicts sound_behind) answer.stands.verdict
 
-  unmarked : isInFlight answer.verdict ≡ true → mark_counts (handed w) (volumeVerdict vs) ≡ false
+  unmarked : is_in_flight answer.verdict ≡ true → mark_counts (handed w) (volume_verdict vs) ≡ false
   unfolding handed
   unmarked flight = row_unmarked sound_before _ answer.winner (sound_verdicts sound_behind) answer.explained flight
 
-  verdicts_are : verdicts (parts (after w)) (handed w) ≡ vs
+  verdicts_are : verdicts (shown (after w)) (handed w) ≡ vs
   verdicts_are =
-      row_verdicts (sound_settled sound_before) (sound_settled sound_behind) answer.winner answer.explained (handed w) unmarked (parts (after w)) first
+      row_verdicts (sound_settled sound_before) (sound_settled sound_behind) answer.winner answer.explained (handed w) unmarked (shown (after w)) first
 
-  writable_is : (judgeRow (parts (after w)) (handed w)).writable ≡ true
+  writable_is : (judgement (shown (after w)) (handed w)).writable ≡ true
   writable_is =
-      row_writable (sound_settled sound_before) (sound_settled sound_behind) answer.winner answer.explained (handed w) unmarked (parts (after w)) first
+      row_writable (sound_settled sound_before) (sound_settled sound_behind) answer.winner answer.explained (handed w) unmarked (shown (after w)) first
 
-  healed : (h : Heal) → Healed (length (sound_verdicts sound_before)) answer.winner answer.verdict h
-      → (h ≡ Heal.Nothing) ⊎ (h ≡ Heal.Slot (length w.before) w.index)
-  healed h Healed.none = inl refl
-  healed h (Healed.torn flight) = inr (ap₂ Heal.Slot (length_verdicts sound_before) (answer.flight flight))
+  healed : (h : Option (ℕ × SlotIndex)) → Healed (length (sound_verdicts sound_before)) answer.winner answer.verdict h
+      → (h ≡ None) ⊎ (h ≡ Some ((length w.before), w.index))
+  healed _ Healed.none = inl refl
+  healed _ (Healed.slot flight) = inr (ap₂ (λ (i : ℕ) (index : SlotIndex). Some (i, index)) (length_verdicts sound_before) (answer.flight flight))
 
   typed : Every PairTyped (after w)
   typed = row_typed sound_before (Every.more (written_typed w.index (left w) (sound_typed sound) left_bytes) (all_typed sound_behind))
@@ -235,25 +220,25 @@ module _ (w : Write) (sound_before : Every SoundPair w.before) (sound : SoundPai
   some : 1 ≤ length (after w)
   some = let all = length-append w.before (p ∷ w.behind) in omega arith
 
-  room_after : length out ≡ length (after w) * verdictWidth
-  room_after = room ∙ ap (λ (n : ℕ). n * verdictWidth) (sym same_length)
+  room_after : length out ≡ length (after w) * verdict_width
+  room_after = room ∙ ap (λ (n : ℕ). n * verdict_width) (sym same_length)
 
   survives : Survives w out
   survives =
       record {
         verdict = vs;
-        judgement = judgeRow (parts (after w)) (handed w);
-        answer = judged_row (after w) typed some (handed w) out room_after;
-        written = judged_bytes (after w) typed some (handed w) out room_after ∙ ap verdictBytes verdicts_are;
+        judgement = judgement (shown (after w)) (handed w);
+        answer = judged_row (after w) some (handed w) typed out room_after;
+        written = judged_bytes (after w) some (handed w) typed out room_after ∙ ap row_bytes verdicts_are;
         row_answer = row_judged (after w) some (handed w);
         row_written = λ rows rows_room. row_written (after w) some (handed w) rows rows_room ∙ verdicts_are;
         confirmed =
-            row_confirmed (winnerBeside answer.winner answer.verdict) (sound_verdicts sound_behind) (sound_settled sound_behind)
+            row_confirmed (winner_beside answer.winner answer.verdict) (sound_verdicts sound_behind) (sound_settled sound_behind)
             (explained_standing answer.explained) (sound_settled sound_before);
         writable = writable_is;
         heal =
-            healed (judgeRow (parts (after w)) (handed w)).heal
-            (row_heal (sound_settled sound_before) (sound_settled sound_behind) answer.winner answer.explained (handed w) unmarked (parts (after w)) first);
+            healed (judgement (shown (after w)) (handed w)).heal
+            (row_heal (sound_settled sound_before) (sound_settled sound_behind) answer.winner answer.explained (handed w) unmarked (shown (after w)) first);
         back = row_back sound_before (AllReadBack.more (stands_back answer.stands) (sound_back sound_behind));
       }
 

@@ -1,27 +1,27 @@
 -- A correct write to a sound pair: `encode` refuses nothing, its fields fit and ask for what the slot is read with; the winner, the
 -- record before the write, and the slot that is written over.
-use Rattle.std.proofs.Common.{◌≡◌, refl, sym, ap, ap₂, subst, ◌∙◌, Bool, true, List, ◌++◌, ℕ, ◌-◌, ◌^◌, ◌≤◌, ◌<◌, arith, eq-eqb, ne_eqb, lt-ltb, le-ltb, length, take, drop, pow_mono, take_at, drop_at}
-use Rattle.codec.specs.Bytes.{AllBytes, le32}
-use Rattle.codec.specs.Crc32c.{crc32c}
-use Rattle.codec.specs.Outcome.{given}
-use Rattle.codec.proofs.CursorLaws.{le-lt}
+use Rattle.std.proofs.Common.{◌≡◌, refl, sym, ap, ap₂, subst, ◌∙◌, Bool, true, List, ◌++◌, ℕ, ◌-◌, ◌^◌, ◌≤◌, ◌<◌, arith, eq-eqb, ne_eqb, le-leb, le-ltb, length, take, drop, replicate, length-append, pow_mono, take_at, drop_at, Result, Ok}
+use Rattle.std.proofs.Math.ListN.{length-replicate}
+use Rattle.codec.specs.Bytes.{AllBytes}
 use Rattle.slot.specs.Status.{other}
-use Rattle.slot.specs.Read.{magic, lengthOk, numberOk, payload as payload_of}
-use Rattle.slot.specs.Write.{encode, headerCrc, writtenHeader, slotBytes, encodeRefusal}
+use Rattle.slot.specs.Payload.{payload as payload_of}
+use Rattle.slot.specs.Header.{magic}
+use Rattle.slot.specs.Read.{is_slot_length}
+use Rattle.slot.specs.Write.{header_bytes, header_crc, written_header, slot_bytes, encode_check, encoded as encode_by, encode}
+use Rattle.slot.specs.Laws.{Fits, expect_of}
 use Rattle.slot.specs.declared.slot.SlotIndex.{SlotIndex}
 use Rattle.slot.specs.declared.slot.SlotInfo.{SlotInfo}
 use Rattle.slot.specs.declared.slot.SlotStatus.{SlotStatus}
 use Rattle.slot.specs.declared.slot.SlotFields.{SlotFields}
 use Rattle.slot.specs.declared.slot.Expect.{Expect}
-use Rattle.slot.proofs.ReadLaws.{length-log2}
-use Rattle.slot.proofs.WriteLaws.{length-header}
-use Rattle.encode.proofs.EncodeLaws.{Fits, Proper, expectOf, slot-parts, length-slot, magic-read}
-use Rattle.encode.proofs.RoundTrip.{written}
-use Rattle.pair.specs.declared.pair.WinnerInfo.{WinnerInfo}
+use Rattle.slot.specs.declared.slot.EncodeError.{EncodeError}
+use Rattle.slot.proofs.Room.{slot_length}
+use Rattle.slot.proofs.WrittenLaws.{length_header}
+use Rattle.slot.proofs.RoundTripLaws.{Proper}
 use Rattle.cut.specs.Store.{Pair, accepts, slot_at, status, last_record, SoundSlot, Beside, SoundPair}
 use Rattle.cut.specs.Cut.{Write, size, expect, old, new, CorrectWrite}
 use Rattle.cut.specs.Laws.{Encoded}
-use Rattle.cut.proofs.ByteLaws.{slot_bytes}
+use Rattle.cut.proofs.ByteLaws.{slot_all_bytes, le32_lt}
 use Rattle.cut.proofs.StatusLaws.{blank_is, valid_is}
 use Rattle.cut.proofs.PairLaws.{last_is, sound_won}
 
@@ -58,14 +58,14 @@ module _ (w : Write) (sound : SoundPair w.pair) (correct : CorrectWrite w) where
 
   -- ---- the winner is the pair's newer slot
 
-  both_won : WinnerInfo.Won sound.newer sound.info ≡ WinnerInfo.Won (other w.index) i
-  both_won = sym (sound_won p sound) ∙ correct.won
+  both_won : ◌≡◌ {A = SlotIndex × SlotInfo} (sound.newer, sound.info) (other w.index, i)
+  both_won = let both = sym (sound_won p sound) ∙ correct.won in cc
 
   pub newer_is : sound.newer ≡ other w.index
-  newer_is = let both = both_won in cc
+  newer_is = ap (λ (won : SlotIndex × SlotInfo). won.0) both_won
 
   info_is : sound.info ≡ i
-  info_is = let both = both_won in cc
+  info_is = ap (λ (won : SlotIndex × SlotInfo). won.1) both_won
 
   pub winner_valid : status (slot_at (other w.index) w.pair) ≡ SlotStatus.Valid correct.winner
   winner_valid = ap (λ (v : SlotIndex). status (slot_at v p)) (sym newer_is) ∙ sound.valid ∙ ap SlotStatus.Valid info_is
@@ -86,15 +86,15 @@ module _ (w : Write) (sound : SoundPair w.pair) (correct : CorrectWrite w) where
 
   -- ---- the size
 
-  pub old_length : lengthOk (length (old w)) (expect w).log2_slot_size ≡ true
+  pub old_length : is_slot_length (length (old w)) (expect w).log2_slot_size ≡ true
   old_length = go written_over
     where
-      go : Older p w.index i → lengthOk (length (old w)) (expect w).log2_slot_size ≡ true
+      go : Older p w.index i → is_slot_length (length (old w)) (expect w).log2_slot_size ≡ true
       go (Older.blank is_a first is) = (blank_is (old w) (expect w) is).length_ok
       go (Older.valid j is older) = (valid_is (old w) (expect w) j is).length_ok
 
   log2_known : (9 ≤ (expect w).log2_slot_size) × ((expect w).log2_slot_size ≤ 16) × (length (old w) ≡ 2 ^ (expect w).log2_slot_size)
-  log2_known = length-log2 (length (old w)) (expect w).log2_slot_size old_length
+  log2_known = slot_length (length (old w)) (expect w).log2_slot_size old_length
 
   log2_low : 9 ≤ w.fields.log2_slot_size
   log2_low = omega (arith, correct.log2, log2_known.0)
@@ -120,10 +120,8 @@ module _ (w : Write) (sound : SoundPair w.pair) (correct : CorrectWrite w) where
   own_fits : i.header_crc32c < 2 ^ 32
   own_fits =
       let winner_slot = slot_at (other w.index) p in
-      let passed = (valid_is winner_slot.bytes winner_slot.expect i winner_valid).passed in
-      let own : i.header_crc32c ≡ le32 winner_slot.bytes 8 = ap (λ (j : SlotInfo). j.header_crc32c) passed.info_is in
-      let below : le32 winner_slot.bytes 8 < 2 ^ 32 = le-lt 4 winner_slot.bytes 8 (sound.slots (other w.index)).typed.bytes in
-      omega arith
+      rw (valid_is winner_slot.bytes winner_slot.expect i winner_valid).info_is
+      (le32_lt winner_slot.bytes (sound.slots (other w.index)).typed.bytes 8)
 
   pub fields_fit : Fits w.fields
   fields_fit =
@@ -140,70 +138,78 @@ module _ (w : Write) (sound : SoundPair w.pair) (correct : CorrectWrite w) where
         compat = correct.compat;
       }
 
-  number_ok : numberOk f.format_major true f.meta_seq ≡ true
-  unfolding numberOk
-  number_ok = let some : 0 < f.meta_seq = omega (arith, correct.number) in simp (correct.format, lt-ltb _ _ some)
+  some_generation : f.generation ≡ 0 → ⊥
+  some_generation none = omega (arith, correct.generation)
 
   pub fields_proper : Proper w.fields true
   fields_proper =
+      let some_number : 1 ≤ f.meta_seq = omega (arith, correct.number) in
       record {
         fits = fields_fit;
-        generation = omega (arith, correct.generation);
-        format-low = omega (arith, correct.format);
-        format-high = omega (arith, correct.format);
-        number = number_ok;
+        generation = ne_eqb _ _ some_generation;
+        format = simp (eq-eqb _ _ correct.format);
+        number = simp (eq-eqb _ _ correct.format, le-leb _ _ some_number);
       }
 
-  pub expect_is : expectOf w.fields true ≡ expect w
+  pub expect_is : expect_of w.fields true ≡ expect w
   expect_is =
       expect_same correct.volume correct.object correct.offset correct.index correct.log2 (correct.format ∙ sym slot_sound.format)
       (sym slot_sound.numbered)
 
   -- ---- what is written
 
-  none_refused : encodeRefusal f w.payload (length w.buffer) ≡ 0
-  unfolding encodeRefusal
+  none_refused : encode_check f w.payload (length w.buffer) ≡ Ok tt
+  unfolding encode_check
   none_refused =
       let within : length w.payload ≤ length w.buffer - 128 = omega (arith, correct.fits, correct.room) in
-      let some : (f.generation ≡ 0 → ⊥) = λ none. omega (arith, correct.generation) in
-      simp (le-ltb _ _ log2_low, le-ltb _ _ log2_high, eq-eqb _ _ correct.room, le-ltb _ _ within, ne_eqb _ _ some, eq-eqb _ _ correct.format)
+      simp (
+        le-leb _ _ log2_low,
+        le-leb _ _ log2_high,
+        eq-eqb _ _ correct.room,
+        le-ltb _ _ within,
+        ne_eqb _ _ some_generation,
+        eq-eqb _ _ correct.format,
+      )
 
-  not_refused : encode w.fields w.payload w.buffer ≡ given (headerCrc w.fields w.payload)
+  pub not_refused : (encode w.fields w.payload w.buffer).1 ≡ Ok (header_crc w.fields w.payload)
   unfolding encode
-  not_refused = simp none_refused
+  not_refused = rw none_refused
 
-  pub new_is : new w ≡ slotBytes w.fields w.payload
-  new_is = written f w.payload w.buffer none_refused fields_fit true number_ok
+  abbrev padding : List ℕ
+  padding = replicate (2 ^ f.log2_slot_size - 128 - length w.payload) 0
+
+  new_is : new w ≡ slot_bytes f w.payload
+  unfolding encode
+  new_is = ap (λ (answer : Result (Unit {0}) EncodeError). (encode_by f w.payload w.buffer answer).0) none_refused
+
+  new_parts : new w ≡ written_header f w.payload ++ (w.payload ++ padding)
+  new_parts = new_is ∙ (unfold slot_bytes in refl)
+
+  header_size : length (written_header f w.payload) ≡ 128
+  unfolding written_header
+  header_size = length_header _ f (length w.payload) _ fields_fit.volume
 
   pub new_size : length (new w) ≡ size w
-  new_size = ap length new_is ∙ length-slot f w.payload fields_fit.volume correct.fits
+  new_size =
+      ap length new_parts
+      ∙ simp (length-append, header_size, length-replicate)
+      (omega (arith, correct.fits))
 
   pub new_bytes : AllBytes (new w)
-  new_bytes = subst AllBytes (sym new_is) (slot_bytes f w.payload (subst AllBytes (sym correct.volume) slot_sound.typed.volume_bytes) correct.bytes)
+  new_bytes = subst AllBytes (sym new_is) (slot_all_bytes f w.payload (subst AllBytes (sym correct.volume) slot_sound.typed.volume_bytes) correct.bytes)
 
-  header_size : length (writtenHeader f w.payload) ≡ 128
-  unfolding writtenHeader
-  header_size = length-header (headerCrc f w.payload) f (length w.payload) (crc32c w.payload) fields_fit.volume
-
-  new_parts : new w ≡ writtenHeader f w.payload ++ drop 128 (new w)
-  new_parts =
-      let all = new_is ∙ slot-parts f w.payload in
-      all ∙ ap (λ (l : List ℕ). writtenHeader f w.payload ++ l) (sym (ap (drop 128) all ∙ drop_at (writtenHeader f w.payload) _ 128 header_size))
-
-  pub new_header : take 128 (new w) ≡ writtenHeader w.fields w.payload
-  new_header = ap (take 128) new_parts ∙ take_at (writtenHeader f w.payload) (drop 128 (new w)) 128 header_size
+  pub new_header : take 128 (new w) ≡ written_header w.fields w.payload
+  new_header = ap (take 128) new_parts ∙ take_at (written_header f w.payload) (w.payload ++ padding) 128 header_size
 
   pub new_payload : take (length w.payload) (drop 128 (new w)) ≡ w.payload
   new_payload =
-      ap (λ (s : List ℕ). take (length w.payload) (drop 128 s)) (new_is ∙ slot-parts f w.payload)
-      ∙ ap (take (length w.payload)) (drop_at (writtenHeader f w.payload) _ 128 header_size)
-      ∙ take_at w.payload _ (length w.payload) refl
+      ap (λ (s : List ℕ). take (length w.payload) (drop 128 s)) new_parts
+      ∙ ap (take (length w.payload)) (drop_at (written_header f w.payload) (w.payload ++ padding) 128 header_size)
+      ∙ take_at w.payload padding (length w.payload) refl
 
   pub new_magic : take 8 (new w) ≡ magic
-  unfolding writtenHeader
-  new_magic =
-      ap (take 8) new_parts
-      ∙ magic-read (headerCrc f w.payload) f (length w.payload) (crc32c w.payload) (drop 128 (new w)) fields_fit.volume
+  unfolding written_header header_bytes
+  new_magic = ap (take 8) new_parts
 
 pub encoded : Encoded
 encoded = not_refused

@@ -1,25 +1,29 @@
 -- The written pair after the cut, by the header and the payload that the written slot was left with: its winner stands beside a slot that
 -- a crash explains, and what is read back is the new record if it stands whole, else the record before.
-use Rattle.std.proofs.Common.{◌≡◌, refl, sym, ap, ap₂, subst, ◌∙◌, Bool, true, false, cond, List, ◌++◌, ℕ, ◌+◌, ◌≤◌, ◌<◌, le_of_eq, arith, eq-eqb, le-ltb, eqb-true, eqb, lit≤, length, take, drop, take-append-drop, drop_at, take-add, length-take-le}
-use Rattle.codec.specs.Bytes.{le16, le32, same, allZero}
+use Rattle.std.proofs.Common.{◌≡◌, refl, sym, ap, ap₂, subst, ◌∙◌, Bool, true, false, cond, nat_eq, ◌==◌, List, ◌++◌, ℕ, ◌+◌, ◌≤◌, ◌<◌, le_of_eq, arith, eq-eqb, le-ltb, eqb-true, lit≤, length, take, drop, take-append-drop, drop_at, take-add, length-take-le, Option, Some, None, Ok}
+use Rattle.std.specs.List.{list_all}
+use lib.Pointwise.{pointwise, bytes_decides}
+use Rattle.codec.specs.Bytes.{le16, le32}
 use Rattle.codec.specs.Crc32c.{crc32c}
-use Rattle.codec.proofs.RunLaws.{same_true}
 use Rattle.slot.specs.Status.{other}
-use Rattle.slot.specs.Read.{magic, lengthOk, parseHeader, payloadStart, payloadLength, payload as payload_of, payloadOk, validate, headerFacts}
-use Rattle.slot.specs.Write.{writtenHeader}
+use Rattle.slot.specs.Payload.{payload as payload_of}
+use Rattle.slot.specs.Header.{magic, header}
+use Rattle.slot.specs.Read.{is_slot_length, is_blank, check, header_info, passes_payload, validate, header_facts}
+use Rattle.slot.specs.Write.{header_crc, written_header}
+use Rattle.slot.specs.Laws.{stored_header, info_of, SameHeader}
+use Rattle.slot.specs.declared.header.Header.{Header as SlotHeader}
 use Rattle.slot.specs.declared.slot.SlotIndex.{SlotIndex}
 use Rattle.slot.specs.declared.slot.SlotInfo.{SlotInfo}
 use Rattle.slot.specs.declared.slot.SlotStatus.{SlotStatus}
+use Rattle.slot.specs.declared.slot.HeaderFacts.{HeaderFacts}
 use Rattle.slot.specs.declared.slot.Expect.{Expect}
-use Rattle.slot.specs.declared.slot.Parsed.{Parsed}
-use Rattle.slot.proofs.ReadLaws.{length-room}
-use Rattle.slot.proofs.SlotLaws.{parse-same}
-use Rattle.encode.proofs.EncodeLaws.{infoOf, parse-written}
-use Rattle.candidate.specs.declared.pairs.MetaSeq.{MetaSeq}
-use Rattle.verdict.specs.declared.verdict.SlotVerdict.{SlotVerdict}
+use Rattle.slot.proofs.Room.{room}
+use Rattle.slot.proofs.PaddingLaws.{header_same, check_same}
+use Rattle.slot.proofs.RoundTripLaws.{header-is, check_written}
+use Rattle.judge.specs.declared.verdict.SlotVerdict.{SlotVerdict}
 use Rattle.cut.specs.Store.{Pair, accepts, slot_at, status, last_record, SoundPair}
 use Rattle.cut.specs.Cut.{Write, size, expect, old, new, with_slot, CorrectWrite, stands_whole, header_passes, payload_in, Accident}
-use Rattle.cut.proofs.StatusLaws.{same_is, false_true, Passed, parse_passed, blank_is, valid_is, bad_status, bad_facts, passed_facts, passed_status}
+use Rattle.cut.proofs.StatusLaws.{false_true, passed_is, blank_is, valid_is, bad_status, bad_facts, passed_facts, passed_status}
 use Rattle.cut.proofs.JudgeLaws.{Explained}
 use Rattle.cut.proofs.PairLaws.{Stands, beside_valid, beside_blank, beside_bad, beside_new, beside_old}
 use Rattle.cut.proofs.CutLaws.{not_same, differ, Header, not_whole}
@@ -50,8 +54,8 @@ module _ (p : Pair) (s : List ℕ) where
   beside_status SlotIndex.B = refl
 
   beside_facts : (index : SlotIndex)
-      → headerFacts (slot_at (other (other index)) (with_slot index s p)).bytes (slot_at (other (other index)) (with_slot index s p)).expect
-      ≡ headerFacts s (slot_at index p).expect
+      → header_facts (slot_at (other (other index)) (with_slot index s p)).bytes (slot_at (other (other index)) (with_slot index s p)).expect
+      ≡ header_facts s (slot_at index p).expect
   beside_facts SlotIndex.A = refl
   beside_facts SlotIndex.B = refl
 
@@ -67,17 +71,28 @@ payload_front s payload long =
     (ap (drop 128) (take-add 128 (length payload) s) ∙ drop_at (take 128 s) (payload_in s payload) 128 (length-take-le 128 s long))
 
 -- What is known of the written pair: the winner, the verdict on the slot beside it, and the record r.
-pub record PairAfter (p : Pair) (qualifies : SlotIndex → MetaSeq → Bool) (index : SlotIndex) (r : List ℕ) : Type 0 where
+pub record PairAfter (p : Pair) (qualifies : SlotIndex → Option ℕ → Bool) (index : SlotIndex) (r : List ℕ) : Type 0 where
   pub winner : SlotIndex
   pub verdict : SlotVerdict
   pub explained : Explained verdict
   pub stands : Stands p qualifies winner verdict r
   pub flight : verdict ≡ SlotVerdict.InFlight → other winner ≡ index
 
+-- The status and the facts of a header that passed every check.
+abbrev by_payload : Bool → SlotInfo → SlotStatus
+by_payload ok i = cond ok (SlotStatus.Valid i) SlotStatus.BadPayloadCrc
+
+abbrev facts_of : ℕ → SlotHeader → Option HeaderFacts
+facts_of stored h =
+    Some (record {
+      stored_header_crc32c = stored;
+      numbered = Some (record { generation = h.generation; meta_seq = h.meta_seq; prev_header_crc32c = h.prev_header_crc32c });
+    })
+
 module _ (w : Write) (sound : SoundPair w.pair) (correct : CorrectWrite w) (s : List ℕ) (s_size : length s ≡ size w)
     (none : Accident s (old w) (new w) w.payload → ⊥)
-    (qualifies : SlotIndex → MetaSeq → Bool) (unread : (index : SlotIndex) → qualifies index MetaSeq.Nothing ≡ true)
-    (qualified : qualifies w.index (MetaSeq.Number w.fields.meta_seq) ≡ true) where
+    (qualifies : SlotIndex → Option ℕ → Bool) (unread : (index : SlotIndex) → qualifies index None ≡ true)
+    (qualified : qualifies w.index (Some w.fields.meta_seq) ≡ true) where
   abbrev i : SlotInfo
   i = correct.winner
 
@@ -96,11 +111,11 @@ module _ (w : Write) (sound : SoundPair w.pair) (correct : CorrectWrite w) (s : 
   abbrev Answer : Type 0
   Answer = PairAfter p qualifies w.index result
 
-  length_ok : lengthOk (length s) e.log2_slot_size ≡ true
-  length_ok = ap (λ (n : ℕ). lengthOk n e.log2_slot_size) (s_size ∙ sym (old_size w sound correct)) ∙ old_length w sound correct
+  length_ok : is_slot_length (length s) e.log2_slot_size ≡ true
+  length_ok = ap (λ (n : ℕ). is_slot_length n e.log2_slot_size) (s_size ∙ sym (old_size w sound correct)) ∙ old_length w sound correct
 
   long : 128 ≤ length s
-  long = let room = length-room (length s) e.log2_slot_size length_ok in omega arith
+  long = let large = room (length s) e.log2_slot_size length_ok in omega arith
 
   -- The winner is as it was.
   valid : status (slot_at (other w.index) p) ≡ SlotStatus.Valid i
@@ -139,6 +154,32 @@ module _ (w : Write) (sound : SoundPair w.pair) (correct : CorrectWrite w) (s : 
       (unread (other (other w.index))) in
       kept (not_whole s (new w) w.payload not_new) beside.1 beside.2
 
+  -- ---- a header that passes every check
+
+  module _ (passes : check s (header s) e ≡ Ok tt) where
+    status_is : status (slot_at (other (other w.index)) p) ≡ by_payload (passes_payload s (header s)) (header_info (header s))
+    status_is = beside_status w.pair s w.index ∙ passed_status s e length_ok (passed_is s e passes).magic_is passes
+
+    facts_are : header_facts (slot_at (other (other w.index)) p).bytes (slot_at (other (other w.index)) p).expect ≡ facts_of (le32 s 8) (header s)
+    facts_are = beside_facts w.pair s w.index ∙ passed_facts s e length_ok (passed_is s e passes).magic_is passes
+
+    -- The older one.
+    on_older : stands_whole s (new w) w.payload ≡ false → (header_info (header s)).generation < i.generation → Answer
+    on_older torn older = go (passes_payload s (header s)) refl
+      where
+        go : (ok : Bool) → passes_payload s (header s) ≡ ok → Answer
+        go true is =
+            kept torn Explained.nothing
+            (beside_valid p (other w.index) i valid qualifies takes (header_info (header s))
+            (status_is ∙ ap (λ (b : Bool). by_payload b (header_info (header s))) is)
+            older)
+        go false is =
+            kept torn Explained.older
+            (beside_old p (other w.index) i valid qualifies takes (le32 s 8) _
+            (status_is ∙ ap (λ (b : Bool). by_payload b (header_info (header s))) is)
+            facts_are
+            older)
+
   -- ---- the old header
 
   on_old : (take 128 s ≡ take 128 (new w) → ⊥) → take 128 s ≡ take 128 (old w) → Answer
@@ -147,26 +188,8 @@ module _ (w : Write) (sound : SoundPair w.pair) (correct : CorrectWrite w) (s : 
       torn : stands_whole s (new w) w.payload ≡ false
       torn = not_whole s (new w) w.payload not_new
 
-      still_blank : allZero (take 128 (old w)) ≡ true → validate s e ≡ SlotStatus.Blank
-      still_blank zeros = unfold validate in simp (length_ok, ap allZero same_header ∙ zeros)
-
-      by_payload : (j : SlotInfo) (crc : ℕ) → parseHeader s e ≡ Parsed.Passed j crc → j.generation < i.generation
-          → (ok : Bool) → payloadOk s j crc ≡ ok → Answer
-      by_payload j crc parse older true is =
-          kept torn Explained.nothing
-          (beside_valid p (other w.index) i valid qualifies takes j
-          (beside_status w.pair s w.index
-          ∙ passed_status s e length_ok (parse_passed s e j crc parse).magic_is j crc parse
-          ∙ ap (λ (b : Bool). cond b (SlotStatus.Valid j) SlotStatus.BadPayloadCrc) is)
-          older)
-      by_payload j crc parse older false is =
-          kept torn Explained.older_damaged
-          (beside_old p (other w.index) i valid qualifies takes (le32 s 8) _
-          (beside_status w.pair s w.index
-          ∙ passed_status s e length_ok (parse_passed s e j crc parse).magic_is j crc parse
-          ∙ ap (λ (b : Bool). cond b (SlotStatus.Valid j) SlotStatus.BadPayloadCrc) is)
-          (beside_facts w.pair s w.index ∙ passed_facts s e length_ok (parse_passed s e j crc parse).magic_is j crc parse)
-          older)
+      still_blank : is_blank (old w) ≡ true → validate s e ≡ SlotStatus.Blank
+      still_blank zeros = unfold validate in simp (length_ok, ap (list_all (λ b. b == 0)) same_header ∙ zeros)
 
       go : Older w.pair w.index i → Answer
       go (Older.blank is_a first is) =
@@ -175,38 +198,45 @@ module _ (w : Write) (sound : SoundPair w.pair) (correct : CorrectWrite w) (s : 
           (beside_status w.pair s w.index ∙ still_blank (blank_is (old w) e is).zeros))
       go (Older.valid j is older) =
           let known = valid_is (old w) e j is in
-          let header_long : le16 (old w) 12 ≡ 128 = known.passed.length_is (sound.slots w.index).format in
-          let sizes : length (old w) ≡ length s = old_size w sound correct ∙ sym s_size in
-          let parse : parseHeader s e ≡ Parsed.Passed j known.crc =
-          sym (parse-same 128 (old w) s (sym same_header) (lit≤ tt) (le_of_eq header_long) sizes e) ∙ known.parse_is in
-          by_payload j known.crc parse older (payloadOk s j known.crc) refl
+          let header_long : le16 (old w) 12 ≡ 128 = (passed_is (old w) e known.check_is).length_is (sound.slots w.index).format in
+          let same : SameHeader 128 (old w) s =
+          record { same = sym same_header; least = lit≤ tt; whole = le_of_eq header_long; sizes = old_size w sound correct ∙ sym s_size } in
+          let info_is : j ≡ header_info (header s) = known.info_is ∙ ap header_info (header_same (old w) s (sym same_header)) in
+          on_older (sym (check_same 128 (old w) s same e) ∙ known.check_is) torn (subst (λ (k : SlotInfo). k.generation < i.generation) info_is older)
 
   -- ---- the new header
 
+  abbrev stored : SlotHeader
+  stored = stored_header (header_crc w.fields w.payload) w.fields (length w.payload) (crc32c w.payload)
+
   abbrev fresh : SlotInfo
-  fresh = infoOf w.fields w.payload
+  fresh = info_of w.fields w.payload
 
   module _ (same_header : take 128 s ≡ take 128 (new w)) where
-    parts : writtenHeader w.fields w.payload ++ drop 128 s ≡ s
+    parts : written_header w.fields w.payload ++ drop 128 s ≡ s
     parts = ap (λ (l : List ℕ). l ++ drop 128 s) (sym (same_header ∙ new_header w sound correct)) ∙ take-append-drop 128 s
 
-    room : 128 + length w.payload ≤ length s
-    room = omega (arith, correct.fits, s_size)
+    within : 128 + length w.payload ≤ length s
+    within = omega (arith, correct.fits, s_size)
 
-    parse_new : parseHeader s e ≡ Parsed.Passed fresh (crc32c w.payload)
-    parse_new =
-        ap₂ parseHeader (sym parts) (sym (expect_is w sound correct))
-        ∙ parse-written (fields_proper w sound correct) w.payload (drop 128 s) (payload_small w sound correct) (rw parts room)
+    header_new : header s ≡ stored
+    header_new = ap header (sym parts) ∙ header-is (fields_proper w sound correct) w.payload (drop 128 s) (payload_small w sound correct)
 
-    passed : Passed s e fresh (crc32c w.payload)
-    passed = parse_passed s e fresh (crc32c w.payload) parse_new
+    check_new : check s (header s) e ≡ Ok tt
+    check_new =
+        ap (λ (h : SlotHeader). check s h e) header_new
+        ∙ ap₂ (λ (t : List ℕ) (x : Expect). check t stored x) (sym parts) (sym (expect_is w sound correct))
+        ∙ check_written (fields_proper w sound correct) w.payload (drop 128 s) (payload_small w sound correct) (rw parts within)
 
-    status_new : validate s e ≡ cond (payloadOk s fresh (crc32c w.payload)) (SlotStatus.Valid fresh) SlotStatus.BadPayloadCrc
-    status_new = passed_status s e length_ok passed.magic_is fresh (crc32c w.payload) parse_new
+    status_new : status (slot_at (other (other w.index)) p) ≡ by_payload (passes_payload s stored) fresh
+    status_new = status_is check_new ∙ ap (λ (h : SlotHeader). by_payload (passes_payload s h) (header_info h)) header_new
+
+    facts_new : header_facts (slot_at (other (other w.index)) p).bytes (slot_at (other (other w.index)) p).expect ≡ facts_of (le32 s 8) stored
+    facts_new = facts_are check_new ∙ ap (facts_of (le32 s 8)) header_new
 
     payload_is : payload_of fresh s ≡ payload_in s w.payload
-    unfolding payload_of payloadStart payloadLength
-    payload_is = simp (le-ltb _ _ room)
+    unfolding payload_of
+    payload_is = simp (le-ltb _ _ within)
 
     new_long : 128 ≤ length (new w)
     new_long = rw (new_size w sound correct ∙ sym s_size) long
@@ -214,7 +244,7 @@ module _ (w : Write) (sound : SoundPair w.pair) (correct : CorrectWrite w) (s : 
     whole_new : payload_in s w.payload ≡ w.payload → stands_whole s (new w) w.payload ≡ true
     unfolding stands_whole
     whole_new same_payload =
-        same_is (take (128 + length w.payload) s) (take (128 + length w.payload) (new w))
+        (bytes_decides (take (128 + length w.payload) s) (take (128 + length w.payload) (new w))).1
         (take-add 128 (length w.payload) s
         ∙ ap₂ ◌++◌ same_header (same_payload ∙ sym (new_payload w sound correct))
         ∙ sym (take-add 128 (length w.payload) (new w)))
@@ -228,10 +258,10 @@ module _ (w : Write) (sound : SoundPair w.pair) (correct : CorrectWrite w) (s : 
         (payload_front s w.payload long ∙ ap (drop 128) is ∙ sym (payload_front (new w) w.payload new_long) ∙ new_payload w sound correct))
 
     -- The new record, which is the winner.
-    on_whole : payloadOk s fresh (crc32c w.payload) ≡ true → payload_in s w.payload ≡ w.payload → Answer
+    on_whole : passes_payload s stored ≡ true → payload_in s w.payload ≡ w.payload → Answer
     on_whole ok same_payload =
         let valid_new : status (slot_at w.index p) ≡ SlotStatus.Valid fresh =
-        put_status w.pair s w.index ∙ status_new ∙ ap (λ (b : Bool). cond b (SlotStatus.Valid fresh) SlotStatus.BadPayloadCrc) ok in
+        ap (λ (index : SlotIndex). status (slot_at index p)) (sym (other_other w.index)) ∙ status_new ∙ ap (λ (b : Bool). by_payload b fresh) ok in
         let record_new : payload_of fresh (slot_at w.index p).bytes ≡ w.payload =
         ap (payload_of fresh) (put_bytes w.pair s w.index) ∙ payload_is ∙ same_payload in
         let takes_new : accepts p.decoder (payload_of fresh (slot_at w.index p).bytes) ≡ true =
@@ -245,35 +275,34 @@ module _ (w : Write) (sound : SoundPair w.pair) (correct : CorrectWrite w) (s : 
               subst (λ (r : List ℕ). Stands p qualifies w.index SlotVerdict.Nothing r)
               (record_new ∙ sym (ap (λ (b : Bool). cond b w.payload (last_record w.pair)) (whole_new same_payload)))
               (beside_valid p w.index fresh valid_new qualifies takes_new i valid older);
-          flight = λ is. let never : ◌≡◌ {A = ℕ} 0 1 = cc in absurd (omega arith);
+          flight = λ is. absurd cc;
         }
 
     -- The write in flight.
-    on_torn : payloadOk s fresh (crc32c w.payload) ≡ false → (payload_in s w.payload ≡ w.payload → ⊥) → Answer
+    on_torn : passes_payload s stored ≡ false → (payload_in s w.payload ≡ w.payload → ⊥) → Answer
     on_torn bad other_payload =
-        kept (torn_new other_payload) Explained.in_flight
-        (beside_new p (other w.index) i valid qualifies takes (le32 s 8) _
-        (beside_status w.pair s w.index ∙ status_new ∙ ap (λ (b : Bool). cond b (SlotStatus.Valid fresh) SlotStatus.BadPayloadCrc) bad)
-        (beside_facts w.pair s w.index ∙ passed_facts s e length_ok passed.magic_is fresh (crc32c w.payload) parse_new)
+        kept (torn_new other_payload) Explained.torn
+        (beside_new p (other w.index) i valid qualifies takes (le32 s 8) _ (status_new ∙ ap (λ (b : Bool). by_payload b fresh) bad) facts_new
         correct.generation
         correct.prev
-        (ap (λ (index : SlotIndex). qualifies index (MetaSeq.Number w.fields.meta_seq)) (other_other w.index) ∙ qualified))
+        (ap (λ (index : SlotIndex). qualifies index (Some w.fields.meta_seq)) (other_other w.index) ∙ qualified))
 
     on_new : Answer
-    on_new = by_checksum (payloadOk s fresh (crc32c w.payload)) refl
+    on_new = by_checksum (passes_payload s stored) refl
       where
-        checksum_is : payloadOk s fresh (crc32c w.payload) ≡ eqb (crc32c (payload_in s w.payload)) (crc32c w.payload)
-        checksum_is = unfold payloadOk in ap (λ (r : List ℕ). eqb (crc32c r) (crc32c w.payload)) payload_is
+        checksum_is : passes_payload s stored ≡ (crc32c (payload_in s w.payload) == crc32c w.payload)
+        checksum_is = unfold passes_payload in ap (λ (r : List ℕ). crc32c r == crc32c w.payload) payload_is
 
-        by_bytes : payloadOk s fresh (crc32c w.payload) ≡ true → (equal : Bool) → same (payload_in s w.payload) w.payload ≡ equal → Answer
-        by_bytes ok true is = on_whole ok (same_true (payload_in s w.payload) w.payload is)
+        by_bytes : passes_payload s stored ≡ true → (equal : Bool) → pointwise nat_eq (payload_in s w.payload) w.payload ≡ equal → Answer
+        by_bytes ok true is = on_whole ok ((bytes_decides (payload_in s w.payload) w.payload).0 is)
         by_bytes ok false is =
             absurd
             (none
-            (Accident.payload same_header (differ (payload_in s w.payload) w.payload is) (eqb-true _ _ (sym checksum_is ∙ ok) ∙ passed.crc_is)))
+            (Accident.payload same_header (differ (payload_in s w.payload) w.payload is)
+            (eqb-true _ _ (sym checksum_is ∙ ok) ∙ sym (ap (λ (h : SlotHeader). h.payload_crc32c) header_new))))
 
-        by_checksum : (ok : Bool) → payloadOk s fresh (crc32c w.payload) ≡ ok → Answer
-        by_checksum true is = by_bytes is (same (payload_in s w.payload) w.payload) refl
+        by_checksum : (ok : Bool) → passes_payload s stored ≡ ok → Answer
+        by_checksum true is = by_bytes is (pointwise nat_eq (payload_in s w.payload) w.payload) refl
         by_checksum false is =
             on_torn is (λ same_payload. false_true {A = ⊥} is (checksum_is ∙ eq-eqb _ _ (ap crc32c same_payload)))
 

@@ -4,31 +4,28 @@
 --
 -- The definitions of other crates that are named here are those that the contracts of `encode`, `validate`, `header_facts`, `judge`, the
 -- winner's payload and the decoders state.
-use Rattle.std.specs.Prelude.{◌≡◌, ◌⊎◌, Bool, true, false, ◌||◌, if◌then◌else◌, List, [], ◌∷◌, ◌++◌, ℕ, ◌+◌, ◌*◌, ◌^◌, ◌≤◌, ◌<◌, nat_lt, ◌==◌, length, take, drop}
+use Rattle.std.specs.Prelude.{◌≡◌, ◌⊎◌, Bool, true, false, ◌&&◌, ◌==◌, nat_le, nat_eq, if◌then◌else◌, List, [], ◌∷◌, ◌++◌, ℕ, ◌+◌, ◌*◌, ◌^◌, ◌≤◌, ◌<◌, length, take, drop, Some, None, Ok}
 use Rattle.std.specs.Borrow.{Bor}
-use Rattle.codec.specs.Bytes.{AllBytes, le16, le32, same, flag}
+use lib.Pointwise.{pointwise}
+use Rattle.codec.specs.Bytes.{AllBytes, le16, le32}
 use Rattle.codec.specs.Crc32c.{crc32c}
 use Rattle.slot.specs.Status.{other}
-use Rattle.slot.specs.Read.{headerSum}
-use Rattle.slot.specs.Write.{encodedBytes}
+use Rattle.slot.specs.Read.{header_sum}
+use Rattle.slot.specs.Write.{encode}
 use Rattle.slot.specs.declared.slot.SlotIndex.{SlotIndex}
 use Rattle.slot.specs.declared.slot.SlotInfo.{SlotInfo}
 use Rattle.slot.specs.declared.slot.SlotFields.{SlotFields}
 use Rattle.slot.specs.declared.slot.Expect.{Expect}
-use Rattle.pair.specs.Pair.{winnerInfo}
-use Rattle.pair.specs.declared.pair.WinnerInfo.{WinnerInfo}
-use Rattle.winner.specs.Winner.{WinnerPart}
-use Rattle.candidate.specs.Numbers.{slots, highest}
-use Rattle.verdict.specs.Verdict.{verdictBytes}
-use Rattle.verdict.specs.declared.verdict.Standing.{Standing}
-use Rattle.verdict.specs.declared.verdict.WinnerSlot.{WinnerSlot}
-use Rattle.verdict.specs.declared.verdict.PairVerdict.{PairVerdict}
-use Rattle.verdict.specs.declared.verdict.Heal.{Heal}
-use Rattle.verdict.specs.declared.verdict.Judgement.{Judgement}
-use Rattle.judge_frames.specs.Frames.{verdictWidth, judged, judgedBytes}
-use Rattle.judge.specs.Row.{rowJudged, rowVerdicts}
-use Rattle.verdict.specs.declared.verdict.Judged.{Judged}
-use Rattle.cut.specs.Store.{Every, Slot, Pair, accepts, clean_mark, slot_at, report, parts, frames, reads, last_record, last_records, store_mark, Sound}
+use Rattle.pair.specs.Pair.{winner_info}
+use Rattle.pair.specs.Winner.{WinnerPart}
+use Rattle.judge.specs.Numbers.{slots, highest}
+use Rattle.judge.specs.Frames.{verdict_width, row_bytes, judge_frames, frames_left}
+use Rattle.judge.specs.Records.{judge_records, records_left}
+use Rattle.judge.specs.Same.{mark}
+use Rattle.judge.specs.declared.verdict.Standing.{Standing}
+use Rattle.judge.specs.declared.verdict.PairVerdict.{PairVerdict}
+use Rattle.judge.specs.declared.verdict.Judgement.{Judgement}
+use Rattle.cut.specs.Store.{Every, Slot, Pair, accepts, clean_mark, slot_at, report, reads, shown, frames, last_record, last_records, store_mark, Sound}
 
 -- ---- the write and the cut
 
@@ -57,7 +54,7 @@ abbrev pub old : Write → List ℕ
 old w = (slot_at w.index w.pair).bytes
 
 abbrev pub new : Write → List ℕ
-new w = encodedBytes w.fields w.payload w.buffer
+new w = (encode w.fields w.payload w.buffer).0
 
 -- Cut after k bytes: the first k new, the others old, as bytes reach the slot in ascending order.
 unfoldable pub cut : ℕ → List ℕ → List ℕ → List ℕ
@@ -87,7 +84,7 @@ CutPoint k size = (k ≡ 0) ⊎ ((8 ≤ k) × (k ≤ size))
 -- owner generation, the compatible flags and the payload are of their types, and the buffer is of the slot's size.
 pub record CorrectWrite (w : Write) : Type 0 where
   pub winner : SlotInfo
-  pub won : winnerInfo (report w.pair) ≡ WinnerInfo.Won (other w.index) winner
+  pub won : winner_info (report w.pair) ≡ Some (other w.index, winner)
   pub format : w.fields.format_major ≡ 2
   pub volume : w.fields.volume_uuid ≡ (expect w).volume_uuid
   pub object : w.fields.object_id ≡ (expect w).object_id
@@ -97,7 +94,7 @@ pub record CorrectWrite (w : Write) : Type 0 where
   pub generation : w.fields.generation ≡ winner.generation + 1
   pub generation_fits : w.fields.generation < 2 ^ 64
   pub prev : w.fields.prev_header_crc32c ≡ winner.header_crc32c
-  pub number : w.fields.meta_seq ≡ highest (slots (parts (store w))) + 1
+  pub number : w.fields.meta_seq ≡ highest (slots (shown (store w))) + 1
   pub number_fits : w.fields.meta_seq < 2 ^ 64
   pub owner : w.fields.owner_generation < 2 ^ 64
   pub compat : w.fields.compat_flags < 2 ^ 32
@@ -110,16 +107,14 @@ pub record CorrectWrite (w : Write) : Type 0 where
 
 -- The new record stands whole in a slot: all its header and payload bytes equal the write's; what follows them does not count.
 unfoldable pub stands_whole : List ℕ → List ℕ → List ℕ → Bool
-stands_whole s new payload = same (take (128 + length payload) s) (take (128 + length payload) new)
+stands_whole s new payload = pointwise nat_eq (take (128 + length payload) s) (take (128 + length payload) new)
 
 abbrev pub whole : Write → Bool
 whole w = stands_whole (left w) (new w) w.payload
 
 -- A header passes its checksum: `validate`'s test, its length within the slot and the sum over it the stored one.
 unfoldable pub header_passes : List ℕ → Bool
-header_passes s =
-    if nat_lt (le16 s 12) 128 || nat_lt (length s) (le16 s 12) then false
-    else headerSum s (le16 s 12) == le32 s 8
+header_passes s = (nat_le 128 (le16 s 12) && nat_le (le16 s 12) (length s)) && (header_sum s (le16 s 12) == le32 s 8)
 
 -- What stands in the place of the payload.
 abbrev pub payload_in : List ℕ → List ℕ → List ℕ
@@ -152,14 +147,14 @@ records w = last_records w.before ++ (if whole w then w.payload else last_record
 -- The winner's payload is r: where the slots' bytes are lent as a and b, every part that `winner_payload` may hand back holds r.
 abbrev pub PayloadIs : Pair → List ℕ → Type 0
 PayloadIs p r =
-    (a b part : Bor (List ℕ)) → a.now ≡ p.a.bytes → b.now ≡ p.b.bytes → WinnerPart (winnerInfo (report p)) a b part → part.now ≡ r
+    (a b part : Bor (List ℕ)) → a.now ≡ p.a.bytes → b.now ≡ p.b.bytes → WinnerPart (winner_info (report p)) a b part → part.now ≡ r
 
 -- Read back: the winner's payload part, from the slot that the verdict names as winner, and the pair's decoder accepts it.
 pub record ReadBack (p : Pair) (v : PairVerdict) (r : List ℕ) : Type 0 where
   pub index : SlotIndex
   pub info : SlotInfo
-  pub named : v.winner ≡ WinnerSlot.Slot index
-  pub won : winnerInfo (report p) ≡ WinnerInfo.Won index info
+  pub named : v.winner ≡ Some index
+  pub won : winner_info (report p) ≡ Some (index, info)
   pub part : PayloadIs p r
   pub accepted : accepts p.decoder r ≡ true
 
@@ -173,14 +168,14 @@ pub record Survives (w : Write) (out : List ℕ) : Type 0 where
   pub verdict : List PairVerdict
   pub judgement : Judgement
   -- `judge` over the frames,
-  pub answer : judged (frames (after w)) (flag (handed w)) (length out) ≡ Judged.Done judgement
-  pub written : judgedBytes (frames (after w)) (flag (handed w)) out ≡ verdictBytes verdict
+  pub answer : judge_frames (frames (after w)) (mark (handed w)) (length out) ≡ Ok judgement
+  pub written : frames_left (frames (after w)) (mark (handed w)) out ≡ row_bytes verdict
   -- and over the row of pairs the same.
-  pub row_answer : rowJudged (reads (after w)) (handed w) (length (after w)) ≡ Judged.Done judgement
-  pub row_written : (rows : List PairVerdict) → length rows ≡ length (after w) → rowVerdicts (reads (after w)) (handed w) rows ≡ verdict
+  pub row_answer : judge_records (reads (after w)) (handed w) (length (after w)) ≡ Ok judgement
+  pub row_written : (rows : List PairVerdict) → length rows ≡ length (after w) → records_left (reads (after w)) (handed w) rows ≡ verdict
   pub confirmed : Every (λ (v : PairVerdict). v.standing ≡ Standing.Confirmed) verdict
   pub writable : judgement.writable ≡ true
-  pub heal : (judgement.heal ≡ Heal.Nothing) ⊎ (judgement.heal ≡ Heal.Slot (length w.before) w.index)
+  pub heal : (judgement.heal ≡ None) ⊎ (judgement.heal ≡ Some (length w.before, w.index))
   pub back : AllReadBack (after w) verdict (records w)
 
 abbrev pub CutTheorem : Type 0
@@ -191,5 +186,5 @@ CutTheorem =
     → CorrectWrite w
     → CutPoint w.k (size w)
     → (Accident (left w) (old w) (new w) w.payload → ⊥)
-    → (out : List ℕ) → length out ≡ length (store w) * verdictWidth
+    → (out : List ℕ) → length out ≡ length (store w) * verdict_width
     → Survives w out

@@ -1,35 +1,35 @@
 -- Laws on the words of the cut theorem (docs/FORMAT.md, "The sound store and the cut"). It would also hold of a store that always has the
 -- mark, of a decoder that accepts anything or of a frame that holds less; these laws would not. Each is the contract of a function.
-use Rattle.std.specs.Prelude.{◌≡◌, true, false, List, [], ◌∷◌, ◌++◌, ℕ, get_or, take}
+use Rattle.std.specs.Prelude.{◌≡◌, true, false, List, [], ◌∷◌, ◌++◌, ℕ, get_or, take, Ok, Err}
 use Rattle.codec.specs.Bytes.{le16, le32}
 use Rattle.codec.specs.Crc32c.{crc32c}
-use Rattle.codec.specs.Outcome.{given, refusal}
-use Rattle.slot.specs.Read.{payload, headerFacts, headerSum}
-use Rattle.slot.specs.Write.{encode, headerCrc}
+use Rattle.slot.specs.Payload.{payload}
+use Rattle.slot.specs.Read.{header_facts, header_sum}
+use Rattle.slot.specs.Write.{encode, header_crc}
 use Rattle.slot.specs.declared.slot.Expect.{Expect}
-use Rattle.slot.specs.declared.slot.HeaderFacts.{HeaderFacts}
-use Rattle.frame.specs.Frame.{failedPart, part_of, partBytes}
-use Rattle.frame.specs.declared.frame.SlotPart.{SlotPart}
-use Rattle.volume.specs.Volume.{decodeVolume}
-use Rattle.page.specs.Read.{decodePage}
-use Rattle.cut.specs.Store.{Volume, Page, accepts, clean_mark, Pair, slot_at, status, filled, frames, store_mark, SoundPair}
+use Rattle.judge.specs.Part.{part_of, part_bytes}
+use Rattle.judge.specs.declared.pairs.Version.{Version}
+use Rattle.meta.specs.Volume.{decode_volume}
+use Rattle.meta.specs.Page.{decode_page}
+use Rattle.meta.specs.declared.meta.MetaError.{MetaError}
+use Rattle.cut.specs.Store.{Volume, Page, accepts, clean_mark, Pair, slot_at, status, frames, store_mark, SoundPair}
 use Rattle.cut.specs.Cut.{Write, CorrectWrite, whole, payload_in, Accident, handed, PayloadIs}
 
 -- ---- the decoders
 
 -- A volume record that its decoder refuses is not accepted,
 abbrev pub VolumeRefused : Type 0
-VolumeRefused = (r : List ℕ) (number : ℕ) → decodeVolume r ≡ refusal number → accepts Volume r ≡ false
+VolumeRefused = (r : List ℕ) (error : MetaError) → decode_volume r ≡ Err error → accepts Volume r ≡ false
 
 -- and neither is a page.
 abbrev pub PageRefused : Type 0
-PageRefused = (index most : ℕ) (r : List ℕ) (number : ℕ) → decodePage r index most ≡ refusal number → accepts (Page index most) r ≡ false
+PageRefused = (index most : ℕ) (r : List ℕ) (error : MetaError) → decode_page r index most ≡ Err error → accepts (Page index most) r ≡ false
 
 -- ---- the write
 
 -- A correct write to a sound pair: `encode` refuses nothing.
 abbrev pub Encoded : Type 0
-Encoded = (w : Write) → SoundPair w.pair → CorrectWrite w → encode w.fields w.payload w.buffer ≡ given (headerCrc w.fields w.payload)
+Encoded = (w : Write) → SoundPair w.pair → CorrectWrite w → (encode w.fields w.payload w.buffer).1 ≡ Ok (header_crc w.fields w.payload)
 
 -- ---- the mark
 
@@ -60,7 +60,7 @@ WholeHanded = (w : Write) → w.before ≡ [] → whole w ≡ true → handed w 
 -- There is none where the sum of a header other than the new one is not the stored one,
 abbrev pub FailedSum : Type 0
 FailedSum =
-    (s old new payload : List ℕ) → (take 128 s ≡ take 128 new → ⊥) → (headerSum s (le16 s 12) ≡ le32 s 8 → ⊥)
+    (s old new payload : List ℕ) → (take 128 s ≡ take 128 new → ⊥) → (header_sum s (le16 s 12) ≡ le32 s 8 → ⊥)
     → Accident s old new payload → ⊥
 
 -- and where under the new header the payload's checksum is not the stored one.
@@ -71,30 +71,22 @@ FailedPayload =
 
 -- ---- the frames
 
--- Where nothing is given, a part of a frame holds what the host left in it,
-abbrev pub NothingGiven : Type 0
-NothingGiven =
-    (rest : SlotPart) (c : ℕ) → (c ≡ 12 → ⊥) → filled rest (failedPart c HeaderFacts.Nothing) ≡ record rest { code = c; facts = 0 }
-
--- and so it does in the other fields where only the own checksum is given.
-abbrev pub ChecksumGiven : Type 0
-ChecksumGiven =
-    (rest : SlotPart) (c own : ℕ) → (c ≡ 12 → ⊥)
-    → filled rest (failedPart c (HeaderFacts.Stored own)) ≡ record rest { code = c; facts = 1; header_crc32c = own }
+-- Where nothing is given, and where only the own checksum is given, a part of a frame holds what the host left in the other fields:
+-- NothingGiven and ChecksumGiven of the judge's crate.
 
 -- A host that leaves zeros there.
-abbrev pub zero_part : SlotPart
-zero_part = record { code = 0; facts = 0; generation = 0; meta_seq = 0; header_crc32c = 0; prev_header_crc32c = 0 }
+abbrev pub zeros : Version
+zeros = record { generation = 0; meta_seq = 0; header_crc32c = 0; prev_header_crc32c = 0 }
 
 -- Then a pair's frame is the bytes of the parts that `SlotPart::new` gives, A's and then B's.
 abbrev pub PairFrame : Type 0
 PairFrame =
-    (p : Pair) (ps : List Pair) → p.a.rest ≡ zero_part → p.b.rest ≡ zero_part
+    (p : Pair) (ps : List Pair) → p.a.rest ≡ zeros → p.b.rest ≡ zeros
     → frames (p ∷ ps)
-    ≡ partBytes (part_of (status p.a) (headerFacts p.a.bytes p.a.expect))
-    ++ (partBytes (part_of (status p.b) (headerFacts p.b.bytes p.b.expect)) ++ frames ps)
+    ≡ part_bytes (part_of (status p.a) (header_facts p.a.bytes p.a.expect))
+    ++ (part_bytes (part_of (status p.b) (header_facts p.b.bytes p.b.expect)) ++ frames ps)
 
--- ---- the read_back
+-- ---- the read-back
 
 -- Of every pair one record at most is read back.
 abbrev pub OnePayload : Type 0

@@ -1,26 +1,26 @@
 -- The sound store (docs/FORMAT.md, "The sound store and the cut"): its slots and pairs, how they are read and judged, and when it is sound.
-use Rattle.std.specs.Prelude.{◌≡◌, Bool, true, false, ◌||◌, if◌then◌else◌, List, [], ◌∷◌, ℕ, ◌+◌, ◌^◌, ◌<◌, nat_le, nat_lt, ◌==◌, length}
+use Rattle.std.specs.Prelude.{◌≡◌, Bool, true, false, List, [], ◌∷◌, ℕ, ◌+◌, ◌^◌, ◌<◌, nat_lt, if◌then◌else◌, length, map, Option, Some, None, Result, Ok, Err, is_ok}
 use Rattle.codec.specs.Bytes.{AllBytes}
-use Rattle.codec.specs.Outcome.{Outcome, given, refusal, isGiven}
-use Rattle.slot.specs.Status.{other, validInfo}
-use Rattle.slot.specs.Read.{payload, validate, headerFacts}
+use Rattle.slot.specs.Status.{other, info}
+use Rattle.slot.specs.Payload.{payload}
+use Rattle.slot.specs.Read.{validate, header_facts}
 use Rattle.slot.specs.declared.slot.SlotIndex.{SlotIndex}
 use Rattle.slot.specs.declared.slot.SlotInfo.{SlotInfo}
 use Rattle.slot.specs.declared.slot.SlotStatus.{SlotStatus}
-use Rattle.slot.specs.declared.slot.ValidInfo.{ValidInfo}
 use Rattle.slot.specs.declared.slot.Expect.{Expect}
+use Rattle.pair.specs.Winner.{read_pair}
 use Rattle.pair.specs.declared.pair.PairReport.{PairReport}
-use Rattle.winner.specs.Winner.{readPair}
-use Rattle.frame.specs.Frame.{part_of}
-use Rattle.frame.specs.declared.frame.SlotPart.{SlotPart}
-use Rattle.verdict.specs.Verdict.{byIndex}
-use Rattle.candidate.specs.declared.pairs.PairPart.{PairPart}
-use Rattle.judge_frames.specs.Frames.{framesOf}
-use Rattle.judge.specs.declared.SlotRead.{SlotRead}
-use Rattle.judge.specs.declared.PairRead.{PairRead}
-use Rattle.volume.specs.Volume.{decodeVolume}
-use Rattle.volume.specs.declared.meta2.VolumeMeta2.{VolumeMeta2}
-use Rattle.page.specs.Read.{decodePage}
+use Rattle.judge.specs.Verdict.{by_index}
+use Rattle.judge.specs.Same.{Framed, frames_of, pairs_of}
+use Rattle.judge.specs.Records.{pair_read}
+use Rattle.judge.specs.declared.pairs.Version.{Version}
+use Rattle.judge.specs.declared.pairs.Pair.{Pair as ShownPair}
+use Rattle.judge.specs.declared.records.SlotRead.{SlotRead}
+use Rattle.judge.specs.declared.records.PairRead.{PairRead}
+use Rattle.meta.specs.Volume.{decode_volume}
+use Rattle.meta.specs.Page.{decode_page}
+use Rattle.meta.specs.declared.meta.MetaError.{MetaError}
+use Rattle.meta.specs.declared.meta2.VolumeMeta2.{VolumeMeta2}
 
 -- Every element has a property.
 pub data Every {T : Type 0} (P : T → Type 0) : List T → Type 0 where
@@ -35,16 +35,16 @@ pub data Decoder : Type 0 where
   Page : ℕ → ℕ → Decoder
 
 abbrev pub accepts : Decoder → List ℕ → Bool
-accepts Volume r = isGiven (decodeVolume r)
-accepts (Page index most) r = isGiven (decodePage r index most)
+accepts Volume r = is_ok (decode_volume r)
+accepts (Page index most) r = is_ok (decode_page r index most)
 
-abbrev pub mark_by : Outcome VolumeMeta2 → Bool
-mark_by (given volume) = volume.clean_close
-mark_by (refusal number) = false
+abbrev pub mark_by : Result VolumeMeta2 MetaError → Bool
+mark_by (Ok volume) = volume.clean_close
+mark_by (Err error) = false
 
 -- The clean mark of a volume record.
 abbrev pub clean_mark : List ℕ → Bool
-clean_mark r = mark_by (decodeVolume r)
+clean_mark r = mark_by (decode_volume r)
 
 -- ---- slots and pairs
 
@@ -52,7 +52,7 @@ clean_mark r = mark_by (decodeVolume r)
 pub record Slot : Type 0 where
   pub bytes : List ℕ
   pub expect : Expect
-  pub rest : SlotPart
+  pub rest : Version
 
 pub record Pair : Type 0 where
   pub a : Slot
@@ -60,71 +60,50 @@ pub record Pair : Type 0 where
   pub decoder : Decoder
 
 abbrev pub slot_at : SlotIndex → Pair → Slot
-slot_at index p = byIndex index p.a p.b
+slot_at index p = by_index index p.a p.b
 
 abbrev pub status : Slot → SlotStatus
 status s = validate s.bytes s.expect
 
 -- What `decide` reports of a pair.
 abbrev pub report : Pair → PairReport
-report p = readPair p.a.bytes p.a.expect p.b.bytes p.b.expect
+report p = read_pair p.a.bytes p.a.expect p.b.bytes p.b.expect
 
--- ---- the frames
-
--- Generation, number and previous checksum are given under code 12 and with facts 2; the own checksum with facts 1, too.
-abbrev pub numbers_given : SlotPart → Bool
-numbers_given p = (p.code == 12) || (p.facts == 2)
-
-abbrev pub checksum_given : SlotPart → Bool
-checksum_given p = (p.code == 12) || nat_le 1 p.facts
-
--- The fields that are given, and the rest as it was.
-unfoldable pub filled : SlotPart → SlotPart → SlotPart
-filled rest p =
-    record {
-      code = p.code;
-      facts = p.facts;
-      generation = if numbers_given p then p.generation else rest.generation;
-      meta_seq = if numbers_given p then p.meta_seq else rest.meta_seq;
-      header_crc32c = if checksum_given p then p.header_crc32c else rest.header_crc32c;
-      prev_header_crc32c = if numbers_given p then p.prev_header_crc32c else rest.prev_header_crc32c;
-    }
+-- ---- the row of pairs, and the frames
 
 -- A slot is validated, and its `header_facts` taken, with the identity and size it is read with.
-unfoldable pub slot_part : Slot → SlotPart
-slot_part s = filled s.rest (part_of (status s) (headerFacts s.bytes s.expect))
-
-unfoldable pub pair_part : Pair → PairPart
-pair_part p = record { a = slot_part p.a; b = slot_part p.b }
-
--- The parts of all pairs, as the judge goes by them.
-abbrev pub parts : List Pair → List PairPart
-parts [] = []
-parts (p ∷ ps) = pair_part p ∷ parts ps
-
--- The frames filled from all pairs.
-abbrev pub frames : List Pair → List ℕ
-frames ps = framesOf (parts ps)
-
--- The row of pairs: each slot's status and its `header_facts`.
 abbrev pub slot_read : Slot → SlotRead
-slot_read s = record { status = status s; facts = headerFacts s.bytes s.expect }
+slot_read s = record { status = status s; facts = header_facts s.bytes s.expect }
+
+-- A pair as it is read, with what is left in the other fields of its frame; and the row of them.
+abbrev pub framed_pair : Pair → Framed
+framed_pair p = record { pair = record { a = slot_read p.a; b = slot_read p.b }; rest_a = p.a.rest; rest_b = p.b.rest }
+
+abbrev pub framed : List Pair → List Framed
+framed ps = map framed_pair ps
 
 abbrev pub reads : List Pair → List PairRead
-reads [] = []
-reads (p ∷ ps) = record { a = slot_read p.a; b = slot_read p.b } ∷ reads ps
+reads ps = pairs_of (framed ps)
+
+-- What the judge is told of them.
+abbrev pub shown : List Pair → List ShownPair
+shown ps = map pair_read (reads ps)
+
+-- The frames filled from all pairs: in a slot's part of a frame the fields that are given, and the rest as it was.
+abbrev pub frames : List Pair → List ℕ
+frames ps = frames_of (framed ps)
 
 -- ---- the last written records
 
-abbrev pub record_by : ValidInfo → ValidInfo → List ℕ → List ℕ → List ℕ
-record_by (ValidInfo.Info i) (ValidInfo.Info j) a b = if nat_lt i.generation j.generation then payload j b else payload i a
-record_by (ValidInfo.Info i) ValidInfo.Nothing a b = payload i a
-record_by ValidInfo.Nothing (ValidInfo.Info j) a b = payload j b
-record_by ValidInfo.Nothing ValidInfo.Nothing a b = []
+abbrev pub record_by : Option SlotInfo → Option SlotInfo → List ℕ → List ℕ → List ℕ
+record_by (Some i) (Some j) a b = if nat_lt i.generation j.generation then payload j b else payload i a
+record_by (Some i) None a b = payload i a
+record_by None (Some j) a b = payload j b
+record_by None None a b = []
 
 -- A record is a payload; a pair's last written one lies in its Valid slot of the highest generation.
 unfoldable pub last_record : Pair → List ℕ
-last_record p = record_by (validInfo (status p.a)) (validInfo (status p.b)) p.a.bytes p.b.bytes
+last_record p = record_by (info (status p.a)) (info (status p.b)) p.a.bytes p.b.bytes
 
 abbrev pub last_records : List Pair → List (List ℕ)
 last_records [] = []

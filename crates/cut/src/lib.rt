@@ -3,13 +3,13 @@
 #![tactic(auto)]
 
 ghost use Rattle.std.specs.Prelude.{◌≡◌, List, ℕ};
-ghost use Rattle.slot.specs.Status.{statusValues};
-ghost use Rattle.pair.specs.Numbers.{reportNumbers};
-ghost use Rattle.winner.specs.Winner.{readPair};
+ghost use Rattle.pair.specs.Winner.{read_pair};
+ghost use Rattle.judge.specs.Same.{NothingGiven, ChecksumGiven};
 ghost use Rattle.cut.specs.Store.{Pair};
 ghost use Rattle.cut.specs.Cut.{CutTheorem, PayloadIs};
-ghost use Rattle.cut.specs.Laws.{VolumeRefused, PageRefused, Encoded, UnmarkedRecord, UnmarkedStore, PageHanded, TornHanded, WholeHanded, FailedSum, FailedPayload, NothingGiven, ChecksumGiven, PairFrame, OnePayload, HasSlots};
+ghost use Rattle.cut.specs.Laws.{VolumeRefused, PageRefused, Encoded, UnmarkedRecord, UnmarkedStore, PageHanded, TornHanded, WholeHanded, FailedSum, FailedPayload, PairFrame, OnePayload, HasSlots};
 
+use pair::pair::PairReport;
 use slot::slot::Expect;
 
 pub fn cut_theorem()
@@ -50,13 +50,14 @@ pub fn no_accident()
 {}
 
 // The frames are the bytes that the library fills, with what the host left in the other fields.
-#[tactic(auto, using(crate::proofs::StatementLaws::nothing_given, crate::proofs::StatementLaws::checksum_alone, crate::proofs::StatementLaws::pair_frame))]
+#[tactic(auto, using(judge::proofs::PartLaws::nothing_given, judge::proofs::PartLaws::checksum_alone, crate::proofs::StatementLaws::pair_frame))]
 pub fn frames()
     ensures kept { NothingGiven }
     ensures kept_beside_checksum { ChecksumGiven }
     ensures filled { PairFrame }
 {}
 
+// Of every pair one record at most is read back.
 pub fn one_record()
     ensures { OnePayload }
 {}
@@ -64,18 +65,13 @@ pub fn one_record()
 // What the theorem calls read back is what `winner_payload` hands out: its part is the record of every pair with these slots.
 pub fn read_back<'a>(
     a: &'a [u8],
-    expect_a: Expect,
+    expect_a: &Expect,
     b: &'a [u8],
-    expect_b: Expect,
-    values_a: &mut [u64; 9],
-    values_b: &mut [u64; 9],
-    report: &mut [u8; 6],
-) -> &'a [u8]
-    ensures back { (p : Pair) → HasSlots p a.now expect_a b.now expect_b → PayloadIs p result.now }
-    ensures only { (p : Pair) → HasSlots p a.now expect_a b.now expect_b → (r : List ℕ) → PayloadIs p r → result.now ≡ r }
-    ensures values_a_after { values_a.new ≡ statusValues (readPair a.now expect_a b.now expect_b).a }
-    ensures values_b_after { values_b.new ≡ statusValues (readPair a.now expect_a b.now expect_b).b }
-    ensures report_after { report.new ≡ reportNumbers (readPair a.now expect_a b.now expect_b) }
+    expect_b: &Expect,
+) -> (PairReport, &'a [u8])
+    ensures back { (p : Pair) → HasSlots p a.now expect_a.now b.now expect_b.now → PayloadIs p result.1.now }
+    ensures only { (p : Pair) → HasSlots p a.now expect_a.now b.now expect_b.now → (r : List ℕ) → PayloadIs p r → result.1.now ≡ r }
+    ensures report { result.0 ≡ read_pair a.now expect_a.now b.now expect_b.now }
 {
-    winner::winner_payload(a, expect_a, b, expect_b, values_a, values_b, report)
+    pair::winner::winner_payload(a, expect_a, b, expect_b)
 }

@@ -1,19 +1,17 @@
 -- The base of a volume record: its writes, and its round trip.
-use Rattle.std.proofs.Common.{◌≡◌, refl, sym, ap, ◌∙◌, Bool, true, false, ℕ, ◌+◌, ◌%◌, ◌^◌, ◌≤◌, ◌<◌, ◌==◌, List, [], ◌∷◌, ◌++◌, length, take, drop, Option, Some, None, Result, Ok, Err, arith, eq-eqb, le-ltb, ltb, ltb-false, lit≤, length-append}
+use Rattle.std.proofs.Common.{◌≡◌, refl, sym, ap, ◌∙◌, Bool, true, false, ℕ, ◌%◌, ◌^◌, ◌≤◌, ◌<◌, List, [], ◌∷◌, ◌++◌, length, take, drop, Some, None, Ok, arith, eq-eqb, le-ltb, ltb, ltb-false, length-append}
 use Rattle.std.proofs.lemmas.Nat.{from_le_bytes-to_le_bytes_2, from_le_bytes-to_le_bytes_8}
 use Rattle.std.proofs.Math.Nat.{mod-eq_of_lt}
 use Rattle.std.specs.Prelude.{if◌then◌else◌}
-use Rattle.std.specs.Int.{w8, w16, w32, w64, to_le_bytes}
+use Rattle.std.specs.Int.{w32, w64, to_le_bytes}
 use Rattle.std.specs.List.{concat}
-use Rattle.codec.specs.Bytes.{AllBytes, le, le16, le32, le64}
+use Rattle.codec.specs.Bytes.{AllBytes, le, le32, le64}
 use Rattle.codec.specs.Cursor.{write_row}
 use Rattle.codec.proofs.RowLaws.{row_front}
-use Rattle.meta.specs.Error.{after}
 use Rattle.meta.specs.Base.{base_at, base_fields, check_base, decoded_base, decode_base, base_row, base_bytes, AcceptableBase, BasesBack}
-use Rattle.meta.specs.declared.meta.MetaError.{MetaError}
 use Rattle.meta.specs.declared.meta.VolumeMeta.{VolumeMeta}
 use Rattle.meta.proofs.LayoutLaws.{base_layout}
-use Rattle.meta.proofs.RoundLaws.{written_8, written_16, written_32, written_64, below_16, below_64, pieces, joined, ◌and◌, passed, after_ok}
+use Rattle.meta.proofs.RoundLaws.{written_8, written_16, written_32, written_64, below_16, below_64, pieces, joined, ◌and◌, after_ok}
 
 pub length_base : (v : VolumeMeta) → length (base_bytes v) ≡ 48
 unfolding base_bytes
@@ -70,16 +68,16 @@ pub base_written : (s : List ℕ) → AllBytes s → 48 ≤ length s → le32 s 
 unfolding base_bytes
 base_written s small long word tail =
     let row : base_row (base_fields s) ≡ pieces (1 ∷ 1 ∷ 2 ∷ 4 ∷ 8 ∷ 8 ∷ 8 ∷ 8 ∷ 8 ∷ []) 0 s =
-        written_8 s small 0 (omega arith)
-        and written_8 s small 1 (omega arith)
-        and written_16 s small 2 (omega arith)
-        and ap (to_le_bytes w32) (sym word) ∙ written_32 s small 4 (omega arith)
-        and written_64 s small 8 (omega arith)
-        and written_64 s small 16 (omega arith)
-        and written_64 s small 24 (omega arith)
-        and written_64 s small 32 (omega arith)
-        and ap (to_le_bytes w64) (sym tail) ∙ written_64 s small 40 (omega arith)
-        and refl in
+    written_8 s small 0 (omega arith)
+    and written_8 s small 1 (omega arith)
+    and written_16 s small 2 (omega arith)
+    and ap (to_le_bytes w32) (sym word) ∙ written_32 s small 4 (omega arith)
+    and written_64 s small 8 (omega arith)
+    and written_64 s small 16 (omega arith)
+    and written_64 s small 24 (omega arith)
+    and written_64 s small 32 (omega arith)
+    and ap (to_le_bytes w64) (sym tail) ∙ written_64 s small 40 (omega arith)
+    and refl in
     ap concat row ∙ joined (1 ∷ 1 ∷ 2 ∷ 4 ∷ 8 ∷ 8 ∷ 8 ∷ 8 ∷ 8 ∷ []) 0 s
 
 -- Each number of a base fits its width.

@@ -1,5 +1,5 @@
 -- Table entries: their writes, and their round trip.
-use Rattle.std.proofs.Common.{◌≡◌, refl, sym, ap, ap₂, ◌∙◌, Bool, true, false, ◌==◌, ℕ, ◌+◌, ◌%◌, ◌^◌, ◌≤◌, ◌<◌, List, [], ◌∷◌, ◌++◌, length, take, drop, Option, Some, None, Result, Ok, Err, arith, le-ltb, ltb, ltb-false, lit≤, append_assoc, length-append, take_at}
+use Rattle.std.proofs.Common.{◌≡◌, refl, ap, ap₂, ◌∙◌, Bool, true, false, ℕ, ◌+◌, ◌≤◌, List, [], ◌∷◌, ◌++◌, length, take, drop, Some, None, Ok, arith, le-ltb, ltb, ltb-false, lit≤, append_assoc, length-append, take_at}
 use Rattle.std.proofs.lemmas.List.Folds.{concat-append}
 use Rattle.std.proofs.lemmas.Nat.{from_le_bytes-to_le_bytes_2, from_le_bytes-to_le_bytes_4, from_le_bytes-to_le_bytes_8}
 use Rattle.std.proofs.Math.Nat.{mod-eq_of_lt}
@@ -41,26 +41,26 @@ unfolding entry_bytes
 written s small long =
     let fits : (k : ℕ) → k ≤ 96 → k ≤ length s = λ k within. omega arith in
     let front : to_le_bytes w32 (le32 s 0) ∷ to_le_bytes w8 (le w8 s 4) ∷ to_le_bytes w8 (le w8 s 5) ∷ to_le_bytes w8 (le w8 s 6) ∷ to_le_bytes w8 (le w8 s 7) ∷ take 24 (drop 8 s) ∷ to_le_bytes w32 (le32 s 32) ∷ to_le_bytes w16 (le16 s 36) ∷ []
-        ≡ pieces (4 ∷ 1 ∷ 1 ∷ 1 ∷ 1 ∷ 24 ∷ 4 ∷ 2 ∷ []) 0 s =
-        written_32 s small 0 (fits 4 (lit≤ tt))
-        and written_8 s small 4 (fits 5 (lit≤ tt))
-        and written_8 s small 5 (fits 6 (lit≤ tt))
-        and written_8 s small 6 (fits 7 (lit≤ tt))
-        and written_8 s small 7 (fits 8 (lit≤ tt))
-        and refl
-        and written_32 s small 32 (fits 36 (lit≤ tt))
-        and written_16 s small 36 (fits 38 (lit≤ tt))
-        and refl in
+    ≡ pieces (4 ∷ 1 ∷ 1 ∷ 1 ∷ 1 ∷ 24 ∷ 4 ∷ 2 ∷ []) 0 s =
+    written_32 s small 0 (fits 4 (lit≤ tt))
+    and written_8 s small 4 (fits 5 (lit≤ tt))
+    and written_8 s small 5 (fits 6 (lit≤ tt))
+    and written_8 s small 6 (fits 7 (lit≤ tt))
+    and written_8 s small 7 (fits 8 (lit≤ tt))
+    and refl
+    and written_32 s small 32 (fits 36 (lit≤ tt))
+    and written_16 s small 36 (fits 38 (lit≤ tt))
+    and refl in
     let places : to_le_bytes w64 (le64 s 40) ∷ to_le_bytes w64 (le64 s 48) ∷ to_le_bytes w64 (le64 s 56) ∷ to_le_bytes w64 (le64 s 64) ∷ to_le_bytes w64 (le64 s 72) ∷ to_le_bytes w64 (le64 s 80) ∷ to_le_bytes w64 (le64 s 88) ∷ []
-        ≡ pieces (8 ∷ 8 ∷ 8 ∷ 8 ∷ 8 ∷ 8 ∷ 8 ∷ []) 40 s =
-        written_64 s small 40 (fits 48 (lit≤ tt))
-        and written_64 s small 48 (fits 56 (lit≤ tt))
-        and written_64 s small 56 (fits 64 (lit≤ tt))
-        and written_64 s small 64 (fits 72 (lit≤ tt))
-        and written_64 s small 72 (fits 80 (lit≤ tt))
-        and written_64 s small 80 (fits 88 (lit≤ tt))
-        and written_64 s small 88 (fits 96 (lit≤ tt))
-        and refl in
+    ≡ pieces (8 ∷ 8 ∷ 8 ∷ 8 ∷ 8 ∷ 8 ∷ 8 ∷ []) 40 s =
+    written_64 s small 40 (fits 48 (lit≤ tt))
+    and written_64 s small 48 (fits 56 (lit≤ tt))
+    and written_64 s small 56 (fits 64 (lit≤ tt))
+    and written_64 s small 64 (fits 72 (lit≤ tt))
+    and written_64 s small 72 (fits 80 (lit≤ tt))
+    and written_64 s small 80 (fits 88 (lit≤ tt))
+    and written_64 s small 88 (fits 96 (lit≤ tt))
+    and refl in
     ap₂ (λ (xs ys : List (List ℕ)). concat (xs ++ (0 ∷ 0 ∷ []) ∷ ys)) front places
     ∙ concat-append (pieces (4 ∷ 1 ∷ 1 ∷ 1 ∷ 1 ∷ 24 ∷ 4 ∷ 2 ∷ []) 0 s) ((0 ∷ 0 ∷ []) ∷ pieces (8 ∷ 8 ∷ 8 ∷ 8 ∷ 8 ∷ 8 ∷ 8 ∷ []) 40 s)
     ∙ ap₂ (λ (l r : List ℕ). l ++ 0 ∷ 0 ∷ r) (joined (4 ∷ 1 ∷ 1 ∷ 1 ∷ 1 ∷ 24 ∷ 4 ∷ 2 ∷ []) 0 s) (joined (8 ∷ 8 ∷ 8 ∷ 8 ∷ 8 ∷ 8 ∷ 8 ∷ []) 40 s)
@@ -83,9 +83,9 @@ module _ (e : RawEntry) (f : Fits e) (rest : List ℕ) where
   abbrev behind : List ℕ
   behind =
       concat (
-        to_le_bytes w32 e.tag ∷ to_le_bytes w16 e.extent_count ∷ to_le_bytes w16 0
-        ∷ to_le_bytes w64 e.header_a ∷ to_le_bytes w64 e.header_b ∷ to_le_bytes w64 e.data_size ∷ to_le_bytes w64 e.capacity
-        ∷ to_le_bytes w64 e.span_start ∷ to_le_bytes w64 e.span_end ∷ to_le_bytes w64 e.footprint_seq ∷ []
+      to_le_bytes w32 e.tag ∷ to_le_bytes w16 e.extent_count ∷ to_le_bytes w16 0
+      ∷ to_le_bytes w64 e.header_a ∷ to_le_bytes w64 e.header_b ∷ to_le_bytes w64 e.data_size ∷ to_le_bytes w64 e.capacity
+      ∷ to_le_bytes w64 e.span_start ∷ to_le_bytes w64 e.span_end ∷ to_le_bytes w64 e.footprint_seq ∷ []
       )
 
   whole : entry_bytes e ++ rest ≡ front ++ (behind ++ rest)
@@ -102,17 +102,18 @@ module _ (e : RawEntry) (f : Fits e) (rest : List ℕ) where
       × (le64 (behind ++ rest) 8 ≡ e.header_a) × (le64 (behind ++ rest) 16 ≡ e.header_b) × (le64 (behind ++ rest) 24 ≡ e.data_size) × (le64 (behind ++ rest) 32 ≡ e.capacity)
       × (le64 (behind ++ rest) 40 ≡ e.span_start) × (le64 (behind ++ rest) 48 ≡ e.span_end) × (le64 (behind ++ rest) 56 ≡ e.footprint_seq)
   unfolding le
-  numbers_behind =
-      (from_le_bytes-to_le_bytes_4 e.tag f.tag,
-      from_le_bytes-to_le_bytes_2 e.extent_count f.extent_count,
-      refl,
-      from_le_bytes-to_le_bytes_8 e.header_a f.header_a,
-      from_le_bytes-to_le_bytes_8 e.header_b f.header_b,
-      from_le_bytes-to_le_bytes_8 e.data_size f.data_size,
-      from_le_bytes-to_le_bytes_8 e.capacity f.capacity,
-      from_le_bytes-to_le_bytes_8 e.span_start f.span_start,
-      from_le_bytes-to_le_bytes_8 e.span_end f.span_end,
-      from_le_bytes-to_le_bytes_8 e.footprint_seq f.footprint_seq)
+  numbers_behind = (
+    from_le_bytes-to_le_bytes_4 e.tag f.tag,
+    from_le_bytes-to_le_bytes_2 e.extent_count f.extent_count,
+    refl,
+    from_le_bytes-to_le_bytes_8 e.header_a f.header_a,
+    from_le_bytes-to_le_bytes_8 e.header_b f.header_b,
+    from_le_bytes-to_le_bytes_8 e.data_size f.data_size,
+    from_le_bytes-to_le_bytes_8 e.capacity f.capacity,
+    from_le_bytes-to_le_bytes_8 e.span_start f.span_start,
+    from_le_bytes-to_le_bytes_8 e.span_end f.span_end,
+    from_le_bytes-to_le_bytes_8 e.footprint_seq f.footprint_seq,
+  )
 
   fields : entry_fields (front ++ (behind ++ rest)) ≡ stored e
   fields =
@@ -121,16 +122,29 @@ module _ (e : RawEntry) (f : Fits e) (rest : List ℕ) where
       let first = numbers_front in
       let last = numbers_behind in
       simp (
-        first.0, first.1, first.2, first.3, first.4, take_at e.name (behind ++ rest) 24 f.name,
-        at w32 0 ∙ last.0, at w16 4 ∙ last.1, at w16 6 ∙ last.2, at w64 8 ∙ last.3, at w64 16 ∙ last.4, at w64 24 ∙ last.5,
-        at w64 32 ∙ last.6, at w64 40 ∙ last.7, at w64 48 ∙ last.8, at w64 56 ∙ last.9,
+        first.0,
+        first.1,
+        first.2,
+        first.3,
+        first.4,
+        take_at e.name (behind ++ rest) 24 f.name,
+        at w32 0 ∙ last.0,
+        at w16 4 ∙ last.1,
+        at w16 6 ∙ last.2,
+        at w64 8 ∙ last.3,
+        at w64 16 ∙ last.4,
+        at w64 24 ∙ last.5,
+        at w64 32 ∙ last.6,
+        at w64 40 ∙ last.7,
+        at w64 48 ∙ last.8,
+        at w64 56 ∙ last.9,
       )
 
   read_back : read_entry (entry_bytes e ++ rest) ≡ Ok (stored e)
   read_back =
       let long : 96 ≤ length (entry_bytes e ++ rest) = omega (arith, length-append (entry_bytes e) rest, length_entry e f.name) in
       let at : entry_at (entry_bytes e ++ rest) ≡ Some (stored e) =
-          entry_layout (entry_bytes e ++ rest) ∙ rw (le-ltb _ 96 long) (ap Some (ap entry_fields whole ∙ fields)) in
+      entry_layout (entry_bytes e ++ rest) ∙ rw (le-ltb _ 96 long) (ap Some (ap entry_fields whole ∙ fields)) in
       rw at refl
 
 -- ---- stored as it was accepted

@@ -1,12 +1,11 @@
 -- A row of reads gives the fields by their offsets where its bytes are there, and nothing where they are not.
-use Rattle.std.proofs.Common.{◌≡◌, refl, sym, ap, ◌∙◌, ℕ, ◌+◌, ◌≤◌, Bool, true, false, List, length, take, drop, Option, Some, None, arith, ltb, ltb-false, le-ltb, lit≤}
-use Rattle.std.specs.Prelude.{nat_lt, if◌then◌else◌}
+use Rattle.std.proofs.Common.{◌≡◌, refl, ℕ, ◌≤◌, Bool, true, false, List, length, Option, Some, None, arith, ltb, ltb-false, le-ltb, lit≤}
+use Rattle.std.specs.Prelude.{if◌then◌else◌}
 use Rattle.codec.specs.Cursor.{◌>>=◌}
-use Rattle.meta.specs.Base.{base_at, base_fields, BaseLayout}
-use Rattle.meta.specs.Volume.{tail_at, tail_fields, TailLayout}
-use Rattle.meta.specs.Entry.{entry_at, entry_fields, EntryLayout}
-use Rattle.meta.specs.Page.{header_at, header_fields, HeaderLayout}
-use Rattle.codec.specs.Bytes.{le, le32, le64}
+use Rattle.meta.specs.Base.{base_at, BaseLayout}
+use Rattle.meta.specs.Volume.{tail_at, TailLayout}
+use Rattle.meta.specs.Entry.{entry_at, EntryLayout}
+use Rattle.meta.specs.Page.{header_at, HeaderLayout}
 
 -- A step as a test.
 bind_test : {A B : Type 0} (b : Bool) (x : A) (f : A → Option B) → ((if b then None else Some x) >>= f) ≡ (if b then None else f x)

@@ -10,3 +10,4 @@ pub mod BaseLaws
 pub mod VolumeLaws
 pub mod EntryLaws
 pub mod PageLaws
+pub mod TableLaws

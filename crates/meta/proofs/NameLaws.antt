@@ -1,5 +1,5 @@
 -- Laws of region names: what an accepted name is, and that storing a name and reading it back are inverse to each other.
-use Rattle.std.proofs.Common.{◌≡◌, refl, sym, ap, ◌∙◌, subst, Bool, true, false, cond, not, ◌&&◌, List, [], ◌∷◌, ◌++◌, ℕ, zero, suc, ◌+◌, ◌-◌, ◌≤◌, ◌<◌, ◌==◌, arith, eq-eqb, ne_eqb, le-ltb, le-leb, eqb-true, eqb, length, take, drop, replicate, get_or, Option, Some, None, Ok, length-drop, take-append-drop, length-take-le, take_at, drop_at}
+use Rattle.std.proofs.Common.{◌≡◌, refl, sym, ap, ◌∙◌, subst, Bool, true, false, cond, not, ◌&&◌, List, [], ◌∷◌, ◌++◌, ℕ, zero, suc, ◌+◌, ◌-◌, ◌≤◌, ◌<◌, ◌==◌, arith, eq-eqb, ne_eqb, le-ltb, le-leb, eqb-true, length, take, drop, replicate, Option, Some, None, Ok, length-drop, take-append-drop, length-take-le, take_at, drop_at}
 use Rattle.std.specs.Prelude.{if◌then◌else◌, ◌||◌}
 use Rattle.std.specs.Option.{MatchOption, ok_or}
 use Rattle.std.specs.List.{AllWithin, HoldsAt, list_all, list_any}
@@ -90,6 +90,10 @@ named-name s copied rest is same zeros = rw (is, same, zeros) refl
 pub room : (s zeros : List ℕ) → is_name s ≡ true → length zeros ≡ 24 → length (take (length s) zeros) ≡ length s
 room s zeros is size = length-take-le (length s) zeros (omega (arith, size, name_length s is))
 
+pub copied : (s zeros t : List ℕ) → is_name s ≡ true → length zeros ≡ 24
+    → t ≡ (if length (take (length s) zeros) == length s then s else take (length s) zeros) → t ≡ s
+copied s zeros t is size copy = copy ∙ rw (eq-eqb (length (take (length s) zeros)) (length s) (room s zeros is size)) refl
+
 -- What is given is the name as it is stored, and the bytes were a name.
 given : (s : List ℕ) (name : RegionName) → named s ≡ Ok name → (is_name s ≡ true) × (name ≡ stored_name s)
 unfolding name_of
@@ -133,7 +137,7 @@ module _ (s : List ℕ) (ok : is_name s ≡ true) where
   read_stored =
       let front : take (zero_at (s ++ zeros)) (s ++ zeros) ≡ s = take_at s zeros (zero_at (s ++ zeros)) (sym end) in
       let behind : list_all (λ b. b == 0) (drop (zero_at (s ++ zeros)) (s ++ zeros)) ≡ true =
-          ap (list_all (λ b. b == 0)) (drop_at s zeros (zero_at (s ++ zeros)) (sym end)) ∙ zeros_zero (24 - length s) in
+      ap (list_all (λ b. b == 0)) (drop_at s zeros (zero_at (s ++ zeros)) (sym end)) ∙ zeros_zero (24 - length s) in
       rw (behind, front, ok) refl
 
   text_stored : name_text (stored_name s) ≡ s

@@ -1,5 +1,5 @@
 -- Table pages: their entries, their layout by offsets, and their round trip.
-use Rattle.std.proofs.Common.{◌≡◌, refl, sym, ap, ap₂, ◌∙◌, subst, Bool, true, false, not, ◌||◌, ◌==◌, ℕ, zero, suc, ◌+◌, ◌-◌, ◌*◌, ◌/◌, ◌^◌, ◌≤◌, ◌<◌, List, [], ◌∷◌, ◌++◌, length, take, drop, get_or, map, replicate, Option, Some, None, Result, Ok, Err, arith, eq-eqb, eqb-true, le-ltb, leb-false, ltb, append_assoc, length-append, length-take, length-drop, length-take-le, take-append-drop, take_at, drop_at, drop-drop, drop-cons}
+use Rattle.std.proofs.Common.{◌≡◌, refl, sym, ap, ap₂, ◌∙◌, subst, Bool, true, false, not, ◌||◌, ◌==◌, ℕ, zero, suc, ◌+◌, ◌-◌, ◌*◌, ◌/◌, ◌^◌, ◌≤◌, ◌<◌, List, [], ◌∷◌, ◌++◌, length, take, drop, get_or, map, replicate, Some, None, Result, Ok, Err, arith, eq-eqb, eqb-true, le-ltb, leb-false, ltb, append_assoc, length-append, length-take, length-drop, length-take-le, take-append-drop, take_at, drop_at, drop-drop, drop-cons}
 use borrow.Author.Tests.{not-false}
 use borrow.Rule.Slice.PartMut.{put_mid}
 use Rattle.std.proofs.lemmas.Bool.{lt-leb}
@@ -7,10 +7,10 @@ use Rattle.std.proofs.lemmas.List.Folds.{list_any-append}
 use Rattle.std.proofs.Math.Seq.{get_or-append_right}
 use Rattle.std.proofs.lemmas.Nat.{from_le_bytes-to_le_bytes_2, from_le_bytes-to_le_bytes_4}
 use Rattle.std.specs.Prelude.{if◌then◌else◌, nat_lt, nat_le, slice_index}
-use Rattle.std.specs.Int.{w16, w32, from_le_bytes, to_le_bytes}
+use Rattle.std.specs.Int.{w32, from_le_bytes}
 use Rattle.std.specs.List.{concat, list_all, list_any, flat_map}
 use Rattle.std.specs.Simd.{first_chunks}
-use Rattle.codec.specs.Bytes.{AllBytes, le, le16, le32}
+use Rattle.codec.specs.Bytes.{AllBytes, le, le32}
 use Rattle.codec.specs.Cursor.{write_row}
 use Rattle.codec.proofs.ByteLaws.{agree-number}
 use Rattle.codec.proofs.RowLaws.{row_front}
@@ -81,7 +81,7 @@ encoded h es out front written few same room front-is written-is =
     let header : List ℕ = header_bytes h in
     let before : take 24 (header ++ drop 24 out) ≡ header = take_at header (drop 24 out) 24 (length_header h) in
     let after : drop (length es * 96) (drop 24 (header ++ drop 24 out)) ≡ drop (24 + length es * 96) out =
-        ap (drop (length es * 96)) (drop_at header (drop 24 out) 24 (length_header h)) ∙ drop-drop (length es * 96) 24 out in
+    ap (drop (length es * 96)) (drop_at header (drop 24 out) 24 (length_header h)) ∙ drop-drop (length es * 96) 24 out in
     rw (front-is, written-is, size, before, after)
     (simp (le-ltb 65535 (length es) few, eq-eqb (length es) h.count same, le-ltb _ _ room, append_assoc))
 
@@ -128,7 +128,7 @@ module _ (e : List ℕ) (size : length e ≡ 96) where
   stored_same : slice_index e 38 ≡ 0 → slice_index e 39 ≡ 0 → stored_part e ≡ e
   stored_same first second =
       let behind : drop 38 e ≡ 0 ∷ 0 ∷ drop 40 e =
-          drop-cons e 38 0 (omega arith) ∙ ap₂ (λ (x : ℕ) (t : List ℕ). x ∷ t) first (drop-cons e 39 0 (omega arith) ∙ ap (λ (x : ℕ). x ∷ drop 40 e) second) in
+      drop-cons e 38 0 (omega arith) ∙ ap₂ (λ (x : ℕ) (t : List ℕ). x ∷ t) first (drop-cons e 39 0 (omega arith) ∙ ap (λ (x : ℕ). x ∷ drop 40 e) second) in
       ap (λ (t : List ℕ). take 38 e ++ t) (sym behind) ∙ take-append-drop 38 e
 
 -- Zeros at 38 in each entry.
@@ -254,7 +254,7 @@ header_written s small long zeros =
     let size : length (take 14 (drop 10 s)) ≡ 14 = simp (length-take, length-drop) (omega arith) in
     let behind : replicate 14 0 ≡ take 14 (drop 10 s) = ap (λ (n : ℕ). replicate n 0) (sym size) ∙ sym (all_zeros (take 14 (drop 10 s)) zeros) in
     let row : header_row (header_fields s) ≡ pieces (4 ∷ 4 ∷ 2 ∷ 14 ∷ []) 0 s =
-        written_32 s small 0 (omega arith) and written_32 s small 4 (omega arith) and written_16 s small 8 (omega arith) and behind and refl in
+    written_32 s small 0 (omega arith) and written_32 s small 4 (omega arith) and written_16 s small 8 (omega arith) and behind and refl in
     ap concat row ∙ joined (4 ∷ 4 ∷ 2 ∷ 14 ∷ []) 0 s
 
 written_back : (s : List ℕ) (index most : ℕ) (h : PageHeader) → AllBytes s → decode_page s index most ≡ Ok h → page_bytes h (entries s) ≡ s
@@ -304,7 +304,7 @@ module _ (h : PageHeader) (es : List (List ℕ)) (most : ℕ) (a : AcceptablePag
   unfolding decode_page
   page_read =
       let checked : check_entries h.next_seq (entries page) ≡ Ok tt =
-          ap (check_entries h.next_seq) entries_read ∙ entries_checked h.next_seq (map stored_part es) (stored_issued h.next_seq es a.parts a.issued) (stored_zeros es a.parts) in
+      ap (check_entries h.next_seq) entries_read ∙ entries_checked h.next_seq (map stored_part es) (stored_issued h.next_seq es a.parts a.issued) (stored_zeros es a.parts) in
       simp (header_at_page, eq-eqb h.page_index h.page_index refl, le-ltb most h.count a.within, le-ltb h.next_seq h.count a.given_out, eq-eqb (length page) (24 + h.count * 96) length_page, checked)
 
 -- The first bytes of the buffer are the page.

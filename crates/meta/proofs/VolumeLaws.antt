@@ -1,14 +1,13 @@
 -- The volume record: its writes, and its round trip.
-use Rattle.std.proofs.Common.{◌≡◌, refl, sym, ap, ap₂, ◌∙◌, Bool, true, false, not, ◌==◌, ℕ, zero, suc, ◌+◌, ◌*◌, ◌%◌, ◌^◌, ◌≤◌, ◌<◌, List, [], ◌∷◌, ◌++◌, length, take, drop, Option, Some, None, Result, Ok, Err, arith, eq-eqb, eqb-true, ne_eqb, le-ltb, lit≤, nat_lt, length-append, length-drop, take_all, take-append-drop}
+use Rattle.std.proofs.Common.{◌≡◌, refl, sym, ap, ap₂, ◌∙◌, Bool, true, false, not, ◌==◌, ℕ, zero, suc, ◌*◌, ◌%◌, ◌^◌, ◌≤◌, ◌<◌, List, [], ◌∷◌, ◌++◌, length, drop, Option, Some, None, Ok, arith, eq-eqb, eqb-true, ne_eqb, le-ltb, lit≤, nat_lt, length-append, length-drop, take_all, take-append-drop}
 use borrow.Author.Tests.{not-false}
 use Rattle.std.proofs.lemmas.Bool.{lt-leb}
 use Rattle.std.proofs.lemmas.List.Folds.{concat-append}
 use Rattle.std.proofs.lemmas.Nat.{from_le_bytes-to_le_bytes_2, from_le_bytes-to_le_bytes_4}
-use Rattle.std.proofs.Math.Nat.{mod-eq_of_lt}
-use Rattle.std.specs.Int.{w8, w16, w32, to_le_bytes, from_bool}
+use Rattle.std.specs.Int.{w8, w32, to_le_bytes, from_bool}
 use Rattle.std.specs.List.{concat}
-use Rattle.codec.specs.Bytes.{AllBytes, le, le16, le32, le64}
-use Rattle.codec.specs.Cursor.{Written, write, on, write_row}
+use Rattle.codec.specs.Bytes.{AllBytes, le, le32, le64}
+use Rattle.codec.specs.Cursor.{write, on, write_row}
 use Rattle.codec.specs.declared.codec.Writer.{Writer}
 use Rattle.codec.proofs.RowLaws.{row_front}
 use Rattle.meta.specs.Block.{block_size, entries_per_page}
@@ -123,13 +122,13 @@ volume_written s v small is =
     let d = volume_decoded s v is in
     let fits : (k : ℕ) → k ≤ 64 → k ≤ length s = λ k within. omega (arith, d.size) in
     let tail : tail_row (record2 (base_fields s) (tail_fields s)) ≡ pieces (4 ∷ 2 ∷ 1 ∷ 1 ∷ 4 ∷ 4 ∷ []) 48 s =
-        written_32 s small 48 (fits 52 (lit≤ tt))
-        and written_16 s small 52 (fits 54 (lit≤ tt))
-        and ap (to_le_bytes w8) (mark (le w8 s 54) d.tail.clean) ∙ written_8 s small 54 (fits 55 (lit≤ tt))
-        and ap (to_le_bytes w8) (sym d.tail.reserved0) ∙ written_8 s small 55 (fits 56 (lit≤ tt))
-        and written_32 s small 56 (fits 60 (lit≤ tt))
-        and ap (to_le_bytes w32) (sym d.tail.reserved1) ∙ written_32 s small 60 (fits 64 (lit≤ tt))
-        and refl in
+    written_32 s small 48 (fits 52 (lit≤ tt))
+    and written_16 s small 52 (fits 54 (lit≤ tt))
+    and ap (to_le_bytes w8) (mark (le w8 s 54) d.tail.clean) ∙ written_8 s small 54 (fits 55 (lit≤ tt))
+    and ap (to_le_bytes w8) (sym d.tail.reserved0) ∙ written_8 s small 55 (fits 56 (lit≤ tt))
+    and written_32 s small 56 (fits 60 (lit≤ tt))
+    and ap (to_le_bytes w32) (sym d.tail.reserved1) ∙ written_32 s small 60 (fits 64 (lit≤ tt))
+    and refl in
     ap volume_bytes d.is
     ∙ parts (record2 (base_fields s) (tail_fields s))
     ∙ ap₂ (λ (l r : List ℕ). l ++ r) (base_written s small (fits 48 (lit≤ tt)) d.base.no_word d.base.no_tail) (ap concat tail ∙ joined (4 ∷ 2 ∷ 1 ∷ 1 ∷ 4 ∷ 4 ∷ []) 48 s ∙ take_all 16 (drop 48 s) (omega (arith, length-drop 48 s, d.size)))
@@ -169,7 +168,7 @@ tail_checked : (v : VolumeMeta2) → Acceptable v → check_tail v.base (stored_
 unfolding check_tail
 tail_checked v a =
     let offset : v.base.table_offset ≡ 2 * block_size v.base.log2_block_size =
-        a.offset ∙ ap (λ (n : ℕ). 2 * n) (sym (block_in_range v.base.log2_block_size a.base.block_low a.base.block_high)) in
+    a.offset ∙ ap (λ (n : ℕ). 2 * n) (sym (block_in_range v.base.log2_block_size a.base.block_low a.base.block_high)) in
     let some : (v.table_pages == 0) ≡ false = ne_eqb v.table_pages 0 (λ none. omega (arith, a.pages_low)) in
     simp (eq-eqb _ _ offset, some, lt-leb (2 ^ 30) v.table_pages a.pages_high, eq-eqb _ _ a.entries, mark_low v.clean_close)
 
@@ -178,7 +177,7 @@ unfolding decode_volume check_volume
 volume_back v a =
     let base : base_at (volume_bytes v) ≡ Some (v.base, 0, 0) = ap base_at (parts v) ∙ base_read v.base (concat (tail_row v)) (acceptable_fits v.base a.base) in
     let tail : tail_at (volume_bytes v) ≡ Some (stored_tail v) =
-        tail_layout (volume_bytes v) ∙ rw (le-ltb (length (volume_bytes v)) 64 (omega (arith, length_volume v))) (ap Some (tail_read v a)) in
+    tail_layout (volume_bytes v) ∙ rw (le-ltb (length (volume_bytes v)) 64 (omega (arith, length_volume v))) (ap Some (tail_read v a)) in
     simp (eq-eqb (length (volume_bytes v)) 64 (length_volume v), base, tail, eq-eqb v.base.features 0 a.base.no_features, eq-eqb v.flags 0 a.no_flags, base_checked v.base a.base, tail_checked v a, mark_back v.clean_close)
 
 pub volumes_back : VolumesBack

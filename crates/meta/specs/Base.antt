@@ -5,7 +5,6 @@ use Rattle.std.specs.Int.{w8, w16, w32, w64, to_le_bytes}
 use Rattle.std.specs.List.{concat}
 use Rattle.codec.specs.Bytes.{AllBytes, le, le16, le32, le64}
 use Rattle.codec.specs.Cursor.{◌>>=◌, number}
-use Rattle.codec.specs.declared.codec.Reader.{Reader}
 use Rattle.meta.specs.declared.meta.Field.{Field}
 use Rattle.meta.specs.declared.meta.MetaError.{MetaError}
 use Rattle.meta.specs.declared.meta.VolumeMeta.{VolumeMeta}
@@ -23,15 +22,19 @@ base_at s = do
   created ← number w64 s offset.1
   features ← number w64 s created.1
   reserved_tail ← number w64 s features.1
-  Some (record {
-    log2_block_size = log2_block.0;
-    log2_table_slot_size = log2_table.0;
-    device_index = device.0;
-    owner_generation = owner.0;
-    table_offset = offset.0;
-    created_unix_s = created.0;
-    features = features.0;
-  }, reserved_word.0, reserved_tail.0)
+  Some (
+    record {
+      log2_block_size = log2_block.0;
+      log2_table_slot_size = log2_table.0;
+      device_index = device.0;
+      owner_generation = owner.0;
+      table_offset = offset.0;
+      created_unix_s = created.0;
+      features = features.0;
+    },
+    reserved_word.0,
+    reserved_tail.0,
+  )
 
 -- The same by offsets.
 abbrev pub base_fields : List ℕ → VolumeMeta

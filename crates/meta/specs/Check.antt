@@ -55,7 +55,7 @@ unit RegionKind.Page block = block
 unit RegionKind.Slot block = block
 
 -- 13 sizes.
-unfoldable pub check_sizes : RawEntry → RegionKind → EntryLimits → Result (Unit {0}) MetaError
+abbrev pub check_sizes : RawEntry → RegionKind → EntryLimits → Result (Unit {0}) MetaError
 check_sizes e kind l =
     if not (e.capacity % block_size l.log2_block == 0) || not (e.data_size % unit kind (block_size l.log2_block) == 0) then Err MetaError.Unaligned
     else Ok tt

@@ -6,7 +6,6 @@ use Rattle.std.specs.List.{concat}
 use Rattle.std.specs.Option.{ok_or}
 use Rattle.codec.specs.Bytes.{le, le16, le32, le64}
 use Rattle.codec.specs.Cursor.{◌>>=◌, run, number}
-use Rattle.codec.specs.declared.codec.Reader.{Reader}
 use Rattle.meta.specs.declared.meta.MetaError.{MetaError}
 use Rattle.meta.specs.declared.meta.RegionKind.{RegionKind}
 use Rattle.meta.specs.declared.meta.RegionName.{RegionName}

@@ -9,3 +9,4 @@ pub mod Volume
 pub mod Entry
 pub mod Check
 pub mod Page
+pub mod Table

@@ -7,7 +7,6 @@ use Rattle.std.specs.Simd.{first_chunks}
 use Rattle.codec.specs.Bytes.{AllBytes, le16, le32}
 use Rattle.codec.specs.Cursor.{◌>>=◌, run, number}
 use Rattle.codec.specs.Place.{Part}
-use Rattle.codec.specs.declared.codec.Reader.{Reader}
 use Rattle.meta.specs.declared.meta.Field.{Field}
 use Rattle.meta.specs.declared.meta.MetaError.{MetaError}
 use Rattle.meta.specs.declared.meta2.PageHeader.{PageHeader}

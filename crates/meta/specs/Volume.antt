@@ -5,7 +5,6 @@ use Rattle.std.specs.Int.{w8, w16, w32, to_le_bytes, from_bool}
 use Rattle.std.specs.List.{concat}
 use Rattle.codec.specs.Bytes.{AllBytes, le, le16, le32}
 use Rattle.codec.specs.Cursor.{◌>>=◌, number}
-use Rattle.codec.specs.declared.codec.Reader.{Reader}
 use Rattle.meta.specs.declared.meta.Field.{Field}
 use Rattle.meta.specs.declared.meta.MetaError.{MetaError}
 use Rattle.meta.specs.declared.meta.VolumeMeta.{VolumeMeta}

@@ -22,10 +22,9 @@ ghost use Rattle.meta.specs.Scalar.{GrammarEncodes};
 ghost use Rattle.meta.specs.Name.{is_name, zero_at, named, padded, text, name_text, NamesAre, NamesBack};
 ghost use Rattle.meta.specs.Base.{base_at, check_base, decode_base, base_row, encode_base, BasesBack};
 
-use codec::codec::{Reader, Writer};
+use codec::codec::{Reader, Writer, copy};
 use std::error::Error;
-use std::fmt;
-use std::str;
+use std::{fmt, str};
 
 /// A field whose value is refused.
 #[derive(Clone, Copy, PartialEq, Eq, Debug)]
@@ -142,7 +141,8 @@ impl fmt::Display for Field {
             Field::DataSize => "the region's data exceeds its capacity",
             Field::Span => "the region's span is empty or ends behind the file",
             Field::Capacity => "the region's capacity is zero or exceeds its span",
-            Field::Header => "the region's two headers are not in its span behind the table, in two places",
+            Field::Header =>
+                "the region's two headers are not in its span behind the table, in two places",
             Field::FootprintSeq => "the footprint's number is zero or above the page's",
             Field::Slot => "a slot region has extents or a data area",
             Field::ExtentCount => "the region has no extent",
@@ -256,7 +256,7 @@ impl RegionName {
             return Err(MetaError::Field(Field::Name));
         }
         let mut bytes = [0u8; NAME_MAX];
-        bytes[..name.len()].copy_from_slice(name);
+        copy(&mut bytes[..name.len()], name);
         Ok(Self {
             bytes,
             len: name.len() as u8,
@@ -300,10 +300,7 @@ fn text(bytes: &[u8]) -> &str
 fn is_utf8(bytes: &[u8]) -> bool
     ensures { result ≡ utf8 bytes.now }
 {
-    match str::from_utf8(bytes) {
-        Ok(_) => true,
-        Err(_) => false,
-    }
+    str::from_utf8(bytes).is_ok()
 }
 
 /// Whether bytes are a name.

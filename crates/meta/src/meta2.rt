@@ -49,6 +49,7 @@ ghost use Rattle.meta.specs.Name.{name_in};
 ghost use Rattle.meta.specs.Volume.{tail_at, check_tail, decode_volume, volume_row, encode_volume, table_end, check_file_len, TailLayout, VolumesBack};
 ghost use Rattle.meta.specs.Entry.{read_entry, entry_row, write_entry, name_and_kind, whole_up, reserved_span, to_raw, EntryLayout};
 ghost use Rattle.meta.specs.Check.{check_span, check_header, check_footprint, check_content, check_sizes, check_entry, EntriesBack};
+ghost use Rattle.meta.specs.Table.{Table};
 ghost use Rattle.meta.specs.Page.{header_at, decode_page, Gives, parts, entries, seq, shares, check_own, check_entries, header_row, stored_part, encode_page, HeaderLayout, PagesBack};
 
 use crate::meta::{
@@ -64,8 +65,12 @@ pub const PAGE_HEADER_LEN: usize = 24;
 pub const ENTRY2_LEN: usize = 96;
 /// Pages a container may have.
 pub const MAX_TABLE_PAGES: u32 = 1 << 30;
-/// Must-understand entry flags this version knows: provisioned unwritten, growth capped.
-pub const KNOWN_FLAGS: u8 = 3;
+/// Entry flag: provisioned unwritten.
+pub const FLAG_UNWRITTEN: u8 = 1 << 0;
+/// Entry flag: growth limited to the capacity.
+pub const FLAG_CAPPED: u8 = 1 << 1;
+/// Must-understand entry flags this version knows.
+pub const KNOWN_FLAGS: u8 = FLAG_UNWRITTEN | FLAG_CAPPED;
 
 /// The size of a block or a table slot. A `log2` outside 12 to 16 counts as the nearer end.
 #[tactic(auto, unfolding(crate::specs::Block::block_size))]
@@ -146,6 +151,7 @@ impl Tail {
 
     /// The rules of these fields beside a base that passed its own.
     #[tactic(auto, unfolding(crate::specs::Volume::check_tail), using(crate::proofs::BlockLaws::block_range))]
+    #[inline(always)]
     fn check(&self, base: &VolumeMeta) -> Result<(), MetaError>
         ensures { result ≡ check_tail base.now self.now }
     {
@@ -383,6 +389,7 @@ impl Entry2 {
 impl RawEntry {
     /// The entry in the first 96 bytes.
     #[tactic(auto, unfolding(crate::specs::Entry::entry_at))]
+    #[inline(always)]
     pub fn read(bytes: &[u8]) -> Result<Self, MetaError>
         ensures { result ≡ read_entry bytes.now }
     {
@@ -519,7 +526,9 @@ impl RawEntry {
         self.check_header(self.header_b, lim)?;
         self.check_footprint(lim)?;
         self.check_content(kind)?;
-        self.check_sizes(kind, lim)?;
+        let Ok(_) = self.check_sizes(kind, lim) else {
+            return Err(MetaError::Unaligned);
+        };
         Ok(Entry2 {
             seq: self.seq,
             kind,
@@ -610,7 +619,7 @@ impl RawEntry {
     }
 
     /// Whole data blocks; of 512 bytes in an append region.
-    #[tactic(auto, unfolding(crate::specs::Check::check_sizes), using(crate::proofs::BlockLaws::block_range))]
+    #[tactic(auto, using(crate::proofs::BlockLaws::block_range))]
     fn check_sizes(&self, kind: RegionKind, lim: &EntryLimits) -> Result<(), MetaError>
         ensures { result ≡ check_sizes self.now kind lim.now }
     {
@@ -654,7 +663,7 @@ impl RawEntry {
         let block = block_size(lim.log2_block);
         let start = (self.span_start - self.span_start % block).max(lim.table_end);
         let end = whole_up(self.span_end, block).min(lim.file_len);
-        if start < end { Some((start, end)) } else { None }
+        (start < end).then_some((start, end))
     }
 }
 
@@ -890,4 +899,10 @@ pub fn entries_back()
 #[tactic(auto, using(crate::proofs::PageLaws::pages_back))]
 pub fn pages_back()
     ensures { PagesBack }
+{}
+
+/// Does nothing: its contract is the table of all places and numbers.
+#[tactic(auto, using(crate::proofs::TableLaws::table))]
+pub fn table_law()
+    ensures { Table }
 {}

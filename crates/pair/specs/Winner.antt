@@ -1,5 +1,5 @@
 -- The winner's payload (docs/FORMAT.md, "The winner's payload"): a part of slot A's or slot B's bytes.
-use Rattle.std.specs.Prelude.{List, ℕ, length, Option, Some, None}
+use Rattle.std.specs.Prelude.{◌≡◌, List, ℕ, ◌+◌, ◌≤◌, length, Option, Some, None}
 use Rattle.std.specs.Borrow.{Bor}
 use Rattle.codec.specs.Place.{Part}
 use Rattle.slot.specs.Payload.{payload_start, payload_length}
@@ -7,7 +7,7 @@ use Rattle.slot.specs.Read.{validate}
 use Rattle.slot.specs.declared.slot.SlotIndex.{SlotIndex}
 use Rattle.slot.specs.declared.slot.SlotInfo.{SlotInfo}
 use Rattle.slot.specs.declared.slot.Expect.{Expect}
-use Rattle.pair.specs.Pair.{decide}
+use Rattle.pair.specs.Pair.{decide, winner_info}
 use Rattle.pair.specs.declared.pair.PairReport.{PairReport}
 
 -- Both slots are validated, each with what it is read with.
@@ -23,3 +23,14 @@ abbrev pub WinnerPart : Option (SlotIndex × SlotInfo) → Bor (List ℕ) → Bo
 WinnerPart (Some (SlotIndex.A, i)) a b r = PayloadPart i a r
 WinnerPart (Some (SlotIndex.B, i)) a b r = PayloadPart i b r
 WinnerPart None a b r = Part a 0 0 r
+
+abbrev pub of_slot : {A : Type 0} → SlotIndex → A → A → A
+of_slot SlotIndex.A a b = a
+of_slot SlotIndex.B a b = b
+
+-- The winner's payload lies within its slot.
+abbrev pub WinnerFits : Type 0
+WinnerFits =
+    (a b : List ℕ) (expect_a expect_b : Expect) (index : SlotIndex) (i : SlotInfo)
+    → winner_info (read_pair a expect_a b expect_b) ≡ Some (index, i)
+    → i.payload_start + i.payload_len ≤ length (of_slot index a b)

@@ -2,7 +2,7 @@
 ghost use Rattle.std.specs.Prelude.{◌≡◌};
 ghost use Rattle.pair.specs.Pair.{winner_info};
 ghost use Rattle.pair.specs.Numbers.{report_numbers};
-ghost use Rattle.pair.specs.Winner.{read_pair, WinnerPart};
+ghost use Rattle.pair.specs.Winner.{read_pair, WinnerPart, WinnerFits};
 
 use crate::pair::{PairReport, decide};
 use slot::slot::{Expect, SlotIndex};
@@ -29,3 +29,9 @@ pub fn winner_payload<'a>(
     };
     (report, payload)
 }
+
+// Does nothing: its contract is that a winner's payload lies within its slot.
+#[tactic(auto, using(crate::proofs::WinnerLaws::winner_fits))]
+pub fn fits_law()
+    ensures { WinnerFits }
+{}

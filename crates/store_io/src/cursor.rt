@@ -1,17 +1,35 @@
 // The cursor for C hosts: a number or a run of bytes at a position, which moves on where the step is done.
 //
 // A refusal, 6 for a read and 7 for a write, leaves the position, the value and every byte as they were.
-ghost use Rattle.std.specs.Prelude.{◌≡◌, length, replicate};
-ghost use Rattle.codec.specs.Bytes.{bytes, putWhole};
-ghost use Rattle.codec.specs.Cursor.{read, read_run, read_array, write, remaining};
-ghost use Rattle.store_io.specs.Host.{refusalOf, positionOr, valueOr};
+ghost use Rattle.std.specs.Prelude.{◌≡◌, replicate};
+ghost use Rattle.std.specs.Int.{w8, w16, w32, w64, to_le_bytes};
+ghost use Rattle.codec.specs.Cursor.{number, run, write, remaining};
+ghost use Rattle.store_io.specs.Host.{after_read, run_start, after_write};
 
-use codec::codec::{Read, Reader, Writer, Written};
+use codec::codec::{Reader, Writer};
+
+// A read past the end of the buffer.
+const TRUNCATED: u32 = 6;
+
+// A write past the end of the buffer.
+const OVERFLOW: u32 = 7;
+
+// Hands over what was read, and moves on.
+fn give<T: Copy>(read: Option<(T, Reader)>, position: &mut usize, value: &mut T) -> u32
+    ensures { (result, position.new, value.new) ≡ after_read position.old value.old read }
+{
+    let Some((found, next)) = read else {
+        return TRUNCATED;
+    };
+    *value = found;
+    *position = next.pos;
+    0
+}
 
 // How many bytes of `buf` are left to read at `position`.
 #[unsafe(no_mangle)]
 pub extern "C" fn sio_remaining(buf: &[u8], position: usize) -> usize
-    ensures { result ≡ remaining buf.now position }
+    ensures { result ≡ remaining buf.now (record { pos = position }) }
 {
     Reader { pos: position }.remaining(buf)
 }
@@ -19,65 +37,33 @@ pub extern "C" fn sio_remaining(buf: &[u8], position: usize) -> usize
 // Reads a little-endian `u8`.
 #[unsafe(no_mangle)]
 pub extern "C" fn sio_read_u8(buf: &[u8], position: &mut usize, value: &mut u8) -> u32
-    ensures value { result ≡ refusalOf (read 1 buf.now position.old) }
-    ensures position_after { position.new ≡ positionOr position.old (read 1 buf.now position.old) }
-    ensures value_after { value.new ≡ valueOr value.old (read 1 buf.now position.old) }
+    ensures { (result, position.new, value.new) ≡ after_read position.old value.old (number w8 buf.now (record { pos = position.old })) }
 {
-    let reader = Reader { pos: *position };
-    let Read::Value(v, next) = reader.u8(buf) else {
-        return 6;
-    };
-    *value = v;
-    *position = next.pos;
-    0
+    give(Reader { pos: *position }.u8(buf), position, value)
 }
 
 // Reads a little-endian `u16`.
 #[unsafe(no_mangle)]
 pub extern "C" fn sio_read_u16(buf: &[u8], position: &mut usize, value: &mut u16) -> u32
-    ensures value { result ≡ refusalOf (read 2 buf.now position.old) }
-    ensures position_after { position.new ≡ positionOr position.old (read 2 buf.now position.old) }
-    ensures value_after { value.new ≡ valueOr value.old (read 2 buf.now position.old) }
+    ensures { (result, position.new, value.new) ≡ after_read position.old value.old (number w16 buf.now (record { pos = position.old })) }
 {
-    let reader = Reader { pos: *position };
-    let Read::Value(v, next) = reader.u16(buf) else {
-        return 6;
-    };
-    *value = v;
-    *position = next.pos;
-    0
+    give(Reader { pos: *position }.u16(buf), position, value)
 }
 
 // Reads a little-endian `u32`.
 #[unsafe(no_mangle)]
 pub extern "C" fn sio_read_u32(buf: &[u8], position: &mut usize, value: &mut u32) -> u32
-    ensures value { result ≡ refusalOf (read 4 buf.now position.old) }
-    ensures position_after { position.new ≡ positionOr position.old (read 4 buf.now position.old) }
-    ensures value_after { value.new ≡ valueOr value.old (read 4 buf.now position.old) }
+    ensures { (result, position.new, value.new) ≡ after_read position.old value.old (number w32 buf.now (record { pos = position.old })) }
 {
-    let reader = Reader { pos: *position };
-    let Read::Value(v, next) = reader.u32(buf) else {
-        return 6;
-    };
-    *value = v;
-    *position = next.pos;
-    0
+    give(Reader { pos: *position }.u32(buf), position, value)
 }
 
 // Reads a little-endian `u64`.
 #[unsafe(no_mangle)]
 pub extern "C" fn sio_read_u64(buf: &[u8], position: &mut usize, value: &mut u64) -> u32
-    ensures value { result ≡ refusalOf (read 8 buf.now position.old) }
-    ensures position_after { position.new ≡ positionOr position.old (read 8 buf.now position.old) }
-    ensures value_after { value.new ≡ valueOr value.old (read 8 buf.now position.old) }
+    ensures { (result, position.new, value.new) ≡ after_read position.old value.old (number w64 buf.now (record { pos = position.old })) }
 {
-    let reader = Reader { pos: *position };
-    let Read::Value(v, next) = reader.u64(buf) else {
-        return 6;
-    };
-    *value = v;
-    *position = next.pos;
-    0
+    give(Reader { pos: *position }.u64(buf), position, value)
 }
 
 // Reads a run of `count` bytes: `value` is where it starts.
@@ -88,15 +74,12 @@ pub extern "C" fn sio_read_bytes(
     count: usize,
     value: &mut usize,
 ) -> u32
-    ensures value { result ≡ refusalOf (read_run count buf.now position.old) }
-    ensures position_after { position.new ≡ positionOr position.old (read_run count buf.now position.old) }
-    ensures value_after { value.new ≡ valueOr value.old (read_run count buf.now position.old) }
+    ensures { (result, position.new, value.new) ≡ after_read position.old value.old (run_start count buf.now position.old) }
 {
-    let reader = Reader { pos: *position };
-    let Read::Value(start, next) = reader.bytes(buf, count) else {
-        return 6;
+    let Some((_, next)) = (Reader { pos: *position }).bytes(buf, count) else {
+        return TRUNCATED;
     };
-    *value = start;
+    *value = *position;
     *position = next.pos;
     0
 }
@@ -104,45 +87,26 @@ pub extern "C" fn sio_read_bytes(
 // Reads 16 bytes.
 #[unsafe(no_mangle)]
 pub extern "C" fn sio_read_array16(buf: &[u8], position: &mut usize, value: &mut [u8; 16]) -> u32
-    ensures value { result ≡ refusalOf (read_array 16 buf.now position.old) }
-    ensures position_after { position.new ≡ positionOr position.old (read_array 16 buf.now position.old) }
-    ensures value_after { value.new ≡ valueOr value.old (read_array 16 buf.now position.old) }
+    ensures { (result, position.new, value.new) ≡ after_read position.old value.old (run 16 buf.now (record { pos = position.old })) }
 {
-    let reader = Reader { pos: *position };
-    let Read::Value(bytes, next) = reader.array(buf) else {
-        return 6;
-    };
-    *value = bytes;
-    *position = next.pos;
-    0
+    give(Reader { pos: *position }.array(buf), position, value)
 }
 
 // Reads 24 bytes.
 #[unsafe(no_mangle)]
 pub extern "C" fn sio_read_array24(buf: &[u8], position: &mut usize, value: &mut [u8; 24]) -> u32
-    ensures value { result ≡ refusalOf (read_array 24 buf.now position.old) }
-    ensures position_after { position.new ≡ positionOr position.old (read_array 24 buf.now position.old) }
-    ensures value_after { value.new ≡ valueOr value.old (read_array 24 buf.now position.old) }
+    ensures { (result, position.new, value.new) ≡ after_read position.old value.old (run 24 buf.now (record { pos = position.old })) }
 {
-    let reader = Reader { pos: *position };
-    let Read::Value(bytes, next) = reader.array(buf) else {
-        return 6;
-    };
-    *value = bytes;
-    *position = next.pos;
-    0
+    give(Reader { pos: *position }.array(buf), position, value)
 }
 
 // Writes a little-endian `u8`.
 #[unsafe(no_mangle)]
 pub extern "C" fn sio_write_u8(buf: &mut [u8], position: &mut usize, value: u8) -> u32
-    ensures value { result ≡ refusalOf (write 1 buf.old position.old) }
-    ensures position_after { position.new ≡ positionOr position.old (write 1 buf.old position.old) }
-    ensures buf_after { buf.new ≡ putWhole buf.old position.old (bytes 1 value) }
+    ensures { (result, position.new, buf.new) ≡ after_write position.old (write (to_le_bytes w8 value) buf.old (record { pos = position.old })) }
 {
-    let writer = Writer { pos: *position };
-    let Written::Next(next) = writer.u8(buf, value) else {
-        return 7;
+    let Some(next) = (Writer { pos: *position }).u8(buf, value) else {
+        return OVERFLOW;
     };
     *position = next.pos;
     0
@@ -151,13 +115,10 @@ pub extern "C" fn sio_write_u8(buf: &mut [u8], position: &mut usize, value: u8) 
 // Writes a little-endian `u16`.
 #[unsafe(no_mangle)]
 pub extern "C" fn sio_write_u16(buf: &mut [u8], position: &mut usize, value: u16) -> u32
-    ensures value { result ≡ refusalOf (write 2 buf.old position.old) }
-    ensures position_after { position.new ≡ positionOr position.old (write 2 buf.old position.old) }
-    ensures buf_after { buf.new ≡ putWhole buf.old position.old (bytes 2 value) }
+    ensures { (result, position.new, buf.new) ≡ after_write position.old (write (to_le_bytes w16 value) buf.old (record { pos = position.old })) }
 {
-    let writer = Writer { pos: *position };
-    let Written::Next(next) = writer.u16(buf, value) else {
-        return 7;
+    let Some(next) = (Writer { pos: *position }).u16(buf, value) else {
+        return OVERFLOW;
     };
     *position = next.pos;
     0
@@ -166,13 +127,10 @@ pub extern "C" fn sio_write_u16(buf: &mut [u8], position: &mut usize, value: u16
 // Writes a little-endian `u32`.
 #[unsafe(no_mangle)]
 pub extern "C" fn sio_write_u32(buf: &mut [u8], position: &mut usize, value: u32) -> u32
-    ensures value { result ≡ refusalOf (write 4 buf.old position.old) }
-    ensures position_after { position.new ≡ positionOr position.old (write 4 buf.old position.old) }
-    ensures buf_after { buf.new ≡ putWhole buf.old position.old (bytes 4 value) }
+    ensures { (result, position.new, buf.new) ≡ after_write position.old (write (to_le_bytes w32 value) buf.old (record { pos = position.old })) }
 {
-    let writer = Writer { pos: *position };
-    let Written::Next(next) = writer.u32(buf, value) else {
-        return 7;
+    let Some(next) = (Writer { pos: *position }).u32(buf, value) else {
+        return OVERFLOW;
     };
     *position = next.pos;
     0
@@ -181,13 +139,10 @@ pub extern "C" fn sio_write_u32(buf: &mut [u8], position: &mut usize, value: u32
 // Writes a little-endian `u64`.
 #[unsafe(no_mangle)]
 pub extern "C" fn sio_write_u64(buf: &mut [u8], position: &mut usize, value: u64) -> u32
-    ensures value { result ≡ refusalOf (write 8 buf.old position.old) }
-    ensures position_after { position.new ≡ positionOr position.old (write 8 buf.old position.old) }
-    ensures buf_after { buf.new ≡ putWhole buf.old position.old (bytes 8 value) }
+    ensures { (result, position.new, buf.new) ≡ after_write position.old (write (to_le_bytes w64 value) buf.old (record { pos = position.old })) }
 {
-    let writer = Writer { pos: *position };
-    let Written::Next(next) = writer.u64(buf, value) else {
-        return 7;
+    let Some(next) = (Writer { pos: *position }).u64(buf, value) else {
+        return OVERFLOW;
     };
     *position = next.pos;
     0
@@ -196,13 +151,10 @@ pub extern "C" fn sio_write_u64(buf: &mut [u8], position: &mut usize, value: u64
 // Writes all of `src`.
 #[unsafe(no_mangle)]
 pub extern "C" fn sio_write_bytes(buf: &mut [u8], position: &mut usize, src: &[u8]) -> u32
-    ensures value { result ≡ refusalOf (write (length src.now) buf.old position.old) }
-    ensures position_after { position.new ≡ positionOr position.old (write (length src.now) buf.old position.old) }
-    ensures buf_after { buf.new ≡ putWhole buf.old position.old src.now }
+    ensures { (result, position.new, buf.new) ≡ after_write position.old (write src.now buf.old (record { pos = position.old })) }
 {
-    let writer = Writer { pos: *position };
-    let Written::Next(next) = writer.bytes(buf, src) else {
-        return 7;
+    let Some(next) = (Writer { pos: *position }).bytes(buf, src) else {
+        return OVERFLOW;
     };
     *position = next.pos;
     0
@@ -211,13 +163,10 @@ pub extern "C" fn sio_write_bytes(buf: &mut [u8], position: &mut usize, src: &[u
 // Writes `count` zeros.
 #[unsafe(no_mangle)]
 pub extern "C" fn sio_write_zeros(buf: &mut [u8], position: &mut usize, count: usize) -> u32
-    ensures value { result ≡ refusalOf (write count buf.old position.old) }
-    ensures position_after { position.new ≡ positionOr position.old (write count buf.old position.old) }
-    ensures buf_after { buf.new ≡ putWhole buf.old position.old (replicate count 0) }
+    ensures { (result, position.new, buf.new) ≡ after_write position.old (write (replicate count 0) buf.old (record { pos = position.old })) }
 {
-    let writer = Writer { pos: *position };
-    let Written::Next(next) = writer.zeros(buf, count) else {
-        return 7;
+    let Some(next) = (Writer { pos: *position }).zeros(buf, count) else {
+        return OVERFLOW;
     };
     *position = next.pos;
     0

@@ -1,31 +1,51 @@
 // Table entries for C hosts.
 ghost use Rattle.std.specs.Prelude.{◌≡◌};
-ghost use Rattle.codec.specs.Bytes.{putWhole};
-ghost use Rattle.region.specs.Error.{fitted};
-ghost use Rattle.entry.specs.Entry.{entryRead, entryBytes};
-ghost use Rattle.store_io.specs.Host.{outcomeRefusal, outcomeOr};
-ghost use Rattle.host_meta.specs.Metadata.{valuesOr, rawOf, limitsOf, rawValues, rawName, entryValues, entryName, entryNameLength, checkedAt, restored, decodedName, decodedLength, bothKind, bothName, bothLength, reservedValues};
+ghost use Rattle.meta.specs.Entry.{read_entry, write_entry, entry_bytes};
+ghost use Rattle.meta.specs.Error.{number};
+ghost use Rattle.store_io.specs.Arguments.{raw_of, limits_of};
+ghost use Rattle.store_io.specs.Host.{answer, encoded};
+ghost use Rattle.store_io.specs.Metadata.{raw_values, raw_found, entry_values, entry_found, checked_at, restored, name_decoded, both_decoded, span_values, span_decoded};
 
-use entry::meta2::{Entry2Read, EntryLimits, FoundName, NameAndKind, RawEntry, RawEntryRead};
-use host_meta::entries::{check_at, entry_values, raw_values, span_values, stored_bytes};
-use region::meta::MetaEncoded;
+use crate::answers::give;
+use meta::meta::MetaError;
+use meta::meta2::{Entry2, EntryLimits, RawEntry};
 
 // An entry's fields.
 #[unsafe(no_mangle)]
 pub extern "C" fn sio_read_entry(entry: &[u8], found: &mut [u64; 15], name: &mut [u8; 24]) -> u32
-    ensures value { result ≡ outcomeRefusal (entryRead entry.now) }
-    ensures found_after { found.new ≡ valuesOr rawValues found.old (entryRead entry.now) }
-    ensures name_after { name.new ≡ valuesOr rawName name.old (entryRead entry.now) }
+    ensures { (result, (found.new, name.new)) ≡ answer number raw_found (found.old, name.old) (read_entry entry.now) }
 {
     match RawEntry::read(entry) {
-        RawEntryRead::Refused(error) => error.number() as u32,
-        RawEntryRead::Entry(raw) => {
-            let bytes = raw.name;
-            *found = raw_values(raw);
-            *name = bytes;
+        Ok(raw) => {
+            *found = raw_values(&raw);
+            *name = raw.name;
             0
         }
+        Err(error) => u32::from(error.number()),
     }
+}
+
+// The numbers of an entry as stored, in the layout's order but for the name.
+pub fn raw_values(e: &RawEntry) -> [u64; 15]
+    ensures { result ≡ raw_values e.now }
+{
+    [
+        u64::from(e.seq),
+        u64::from(e.kind),
+        u64::from(e.state),
+        u64::from(e.flags),
+        u64::from(e.compat_flags),
+        u64::from(e.tag),
+        u64::from(e.extent_count),
+        u64::from(e.reserved),
+        e.header_a,
+        e.header_b,
+        e.data_size,
+        e.capacity,
+        e.span_start,
+        e.span_end,
+        e.footprint_seq,
+    ]
 }
 
 // Writes an entry's fields.
@@ -49,18 +69,15 @@ pub extern "C" fn sio_write_entry(
     footprint_seq: u64,
     written: &mut usize,
 ) -> u32
-    ensures value { result ≡ outcomeRefusal (fitted 96 bytes.old) }
-    ensures written_after { written.new ≡ outcomeOr written.old (fitted 96 bytes.old) }
-    ensures bytes_after { bytes.new ≡ putWhole bytes.old 0 (entryBytes (rawOf seq kind state flags compat_flags name.now tag extent_count header_a header_b data_size capacity span_start span_end footprint_seq)) }
+    ensures { (result, written.new, bytes.new) ≡ encoded number written.old (write_entry (raw_of seq kind state flags compat_flags name.now tag extent_count header_a header_b data_size capacity span_start span_end footprint_seq) bytes.old) }
 {
-    let stored_name = *name;
     let raw = RawEntry {
         seq,
         kind,
         state,
         flags,
         compat_flags,
-        name: stored_name,
+        name: *name,
         tag,
         extent_count,
         reserved: 0,
@@ -72,13 +89,14 @@ pub extern "C" fn sio_write_entry(
         span_end,
         footprint_seq,
     };
-    match raw.write(bytes) {
-        MetaEncoded::Refused(error) => error.number() as u32,
-        MetaEncoded::Length(len) => {
-            *written = len;
-            0
-        }
-    }
+    give(raw.write(bytes), written)
+}
+
+// The answer of `check` for the entry in the first 96 bytes.
+pub fn check_at(entry: &[u8], limits: &EntryLimits) -> Result<Entry2, MetaError>
+    ensures { result ≡ checked_at entry.now limits.now }
+{
+    RawEntry::read(entry)?.check(limits)
 }
 
 // Checks an entry by itself.
@@ -93,22 +111,44 @@ pub extern "C" fn sio_check_entry(
     name: &mut [u8; 24],
     name_len: &mut u8,
 ) -> u32
-    ensures value { result ≡ outcomeRefusal (checkedAt entry.now (limitsOf log2_block table_end file_len page_meta_seq)) }
-    ensures found_after { found.new ≡ valuesOr entryValues found.old (checkedAt entry.now (limitsOf log2_block table_end file_len page_meta_seq)) }
-    ensures name_after { name.new ≡ valuesOr entryName name.old (checkedAt entry.now (limitsOf log2_block table_end file_len page_meta_seq)) }
-    ensures name_len_after { name_len.new ≡ valuesOr entryNameLength name_len.old (checkedAt entry.now (limitsOf log2_block table_end file_len page_meta_seq)) }
+    ensures { (result, (found.new, name.new, name_len.new)) ≡ answer number entry_found (found.old, name.old, name_len.old) (checked_at entry.now (limits_of log2_block table_end file_len page_meta_seq)) }
 {
-    match check_at(entry, log2_block, table_end, file_len, page_meta_seq) {
-        Entry2Read::Refused(error) => error.number() as u32,
-        Entry2Read::Entry(e) => {
-            let found_name = e.name;
-            let bytes = found_name.bytes;
-            *found = entry_values(e);
-            *name = bytes;
-            *name_len = found_name.len;
+    let limits = EntryLimits {
+        log2_block,
+        table_end,
+        file_len,
+        page_meta_seq,
+    };
+    match check_at(entry, &limits) {
+        Ok(e) => {
+            *found = entry_values(&e);
+            *name = e.name.bytes;
+            *name_len = e.name.len;
             0
         }
+        Err(error) => u32::from(error.number()),
     }
+}
+
+// The numbers of an accepted entry, in the layout's order; state and reserved bytes are left out.
+pub fn entry_values(e: &Entry2) -> [u64; 13]
+    ensures { result ≡ entry_values e.now }
+{
+    [
+        u64::from(e.seq),
+        u64::from(e.kind.to_u8()),
+        u64::from(e.flags),
+        u64::from(e.compat_flags),
+        u64::from(e.tag),
+        u64::from(e.extent_count),
+        e.header_a,
+        e.header_b,
+        e.data_size,
+        e.capacity,
+        e.span_start,
+        e.span_end,
+        e.footprint_seq,
+    ]
 }
 
 // Checks an entry, and gives it as it is stored.
@@ -121,38 +161,51 @@ pub extern "C" fn sio_entry_to_raw(
     page_meta_seq: u64,
     raw: &mut [u8; 96],
 ) -> u32
-    ensures value { result ≡ outcomeRefusal (checkedAt entry.now (limitsOf log2_block table_end file_len page_meta_seq)) }
-    ensures raw_after { raw.new ≡ valuesOr restored raw.old (checkedAt entry.now (limitsOf log2_block table_end file_len page_meta_seq)) }
+    ensures { (result, raw.new) ≡ answer number restored raw.old (checked_at entry.now (limits_of log2_block table_end file_len page_meta_seq)) }
 {
-    match check_at(entry, log2_block, table_end, file_len, page_meta_seq) {
-        Entry2Read::Refused(error) => error.number() as u32,
-        Entry2Read::Entry(e) => {
-            *raw = stored_bytes(e.to_raw());
+    let limits = EntryLimits {
+        log2_block,
+        table_end,
+        file_len,
+        page_meta_seq,
+    };
+    match check_at(entry, &limits) {
+        Ok(e) => {
+            *raw = stored_bytes(&e.to_raw());
             0
         }
+        Err(error) => u32::from(error.number()),
     }
+}
+
+// The 96 bytes of an entry.
+#[tactic(auto, unfolding(meta::specs::Entry::write_entry))]
+pub fn stored_bytes(e: &RawEntry) -> [u8; 96]
+    ensures { result ≡ entry_bytes e.now }
+{
+    let mut bytes = [0u8; 96];
+    let _ = e.write(&mut bytes);
+    bytes
 }
 
 // The entry's name where it decodes.
 #[unsafe(no_mangle)]
 pub extern "C" fn sio_entry_name(entry: &[u8], name: &mut [u8; 24], name_len: &mut u8) -> u32
-    ensures value { result ≡ outcomeRefusal (entryRead entry.now) }
-    ensures name_after { name.new ≡ valuesOr decodedName name.old (entryRead entry.now) }
-    ensures name_len_after { name_len.new ≡ valuesOr decodedLength name_len.old (entryRead entry.now) }
+    ensures { (result, (name.new, name_len.new)) ≡ answer number name_decoded (name.old, name_len.old) (read_entry entry.now) }
 {
     let raw = match RawEntry::read(entry) {
-        RawEntryRead::Refused(error) => return error.number() as u32,
-        RawEntryRead::Entry(raw) => raw,
+        Ok(raw) => raw,
+        Err(error) => return u32::from(error.number()),
     };
     match raw.name() {
-        FoundName::Nothing => {
-            *name = [0u8; 24];
-            *name_len = 0;
-        }
-        FoundName::Name(found) => {
+        Some(found) => {
             let bytes = found.bytes;
             *name = bytes;
             *name_len = found.len;
+        }
+        None => {
+            *name = [0; 24];
+            *name_len = 0;
         }
     }
     0
@@ -166,26 +219,23 @@ pub extern "C" fn sio_entry_name_and_kind(
     name: &mut [u8; 24],
     name_len: &mut u8,
 ) -> u32
-    ensures value { result ≡ outcomeRefusal (entryRead entry.now) }
-    ensures kind_after { kind.new ≡ valuesOr bothKind kind.old (entryRead entry.now) }
-    ensures name_after { name.new ≡ valuesOr bothName name.old (entryRead entry.now) }
-    ensures name_len_after { name_len.new ≡ valuesOr bothLength name_len.old (entryRead entry.now) }
+    ensures { (result, (kind.new, name.new, name_len.new)) ≡ answer number both_decoded (kind.old, name.old, name_len.old) (read_entry entry.now) }
 {
     let raw = match RawEntry::read(entry) {
-        RawEntryRead::Refused(error) => return error.number() as u32,
-        RawEntryRead::Entry(raw) => raw,
+        Ok(raw) => raw,
+        Err(error) => return u32::from(error.number()),
     };
     match raw.name_and_kind() {
-        NameAndKind::Nothing => {
-            *kind = 0;
-            *name = [0u8; 24];
-            *name_len = 0;
-        }
-        NameAndKind::Both(found, found_kind) => {
+        Some((found, found_kind)) => {
             let bytes = found.bytes;
             *kind = found_kind.to_u8();
             *name = bytes;
             *name_len = found.len;
+        }
+        None => {
+            *kind = 0;
+            *name = [0; 24];
+            *name_len = 0;
         }
     }
     0
@@ -200,20 +250,29 @@ pub extern "C" fn sio_reserved_span(
     file_len: u64,
     span: &mut [u64; 2],
 ) -> u32
-    ensures value { result ≡ outcomeRefusal (entryRead entry.now) }
-    ensures span_after { span.new ≡ valuesOr (reservedValues (limitsOf log2_block table_end file_len 0)) span.old (entryRead entry.now) }
+    ensures { (result, span.new) ≡ answer number (span_decoded (limits_of log2_block table_end file_len 0)) span.old (read_entry entry.now) }
 {
+    let limits = EntryLimits {
+        log2_block,
+        table_end,
+        file_len,
+        page_meta_seq: 0,
+    };
     match RawEntry::read(entry) {
-        RawEntryRead::Refused(error) => error.number() as u32,
-        RawEntryRead::Entry(raw) => {
-            let limits = EntryLimits {
-                log2_block,
-                table_end,
-                file_len,
-                page_meta_seq: 0,
-            };
-            *span = span_values(raw.reserved_span(limits));
+        Ok(raw) => {
+            *span = span_values(raw.reserved_span(&limits));
             0
         }
+        Err(error) => u32::from(error.number()),
+    }
+}
+
+// Start and end, two zeros for none.
+pub fn span_values(span: Option<(u64, u64)>) -> [u64; 2]
+    ensures { result ≡ span_values span }
+{
+    match span {
+        Some((start, end)) => [start, end],
+        None => [0, 0],
     }
 }

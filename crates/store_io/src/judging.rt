@@ -1,10 +1,12 @@
 // The judge for C hosts.
 ghost use Rattle.std.specs.Prelude.{◌≡◌, length};
-ghost use Rattle.judge_frames.specs.Frames.{judged, judgedBytes};
-ghost use Rattle.host_slots.specs.Judging.{judgedRefusal, judgementOr};
+ghost use Rattle.judge.specs.Frames.{judge_frames, frames_left};
+ghost use Rattle.judge.specs.Values.{error_number};
+ghost use Rattle.store_io.specs.Host.{answer};
+ghost use Rattle.store_io.specs.Judging.{judgement_values};
 
-use host_slots::judging::judgement_values;
-use verdict::verdict::Judged;
+use judge::frames::judge;
+use judge::verdict::Judgement;
 
 // Judges a whole store from its frames.
 #[unsafe(no_mangle)]
@@ -14,15 +16,31 @@ pub extern "C" fn sio_judge(
     verdicts: &mut [u8],
     judgement: &mut [u64; 5],
 ) -> u32
-    ensures value { result ≡ judgedRefusal (judged frames.now clean (length verdicts.old)) }
-    ensures verdicts_after { verdicts.new ≡ judgedBytes frames.now clean verdicts.old }
-    ensures judgement_after { judgement.new ≡ judgementOr judgement.old (judged frames.now clean (length verdicts.old)) }
+    ensures found { (result, judgement.new) ≡ answer error_number judgement_values judgement.old (judge_frames frames.now clean (length verdicts.old)) }
+    ensures verdicts_after { verdicts.new ≡ frames_left frames.now clean verdicts.old }
 {
-    match judge_frames::judge(frames, clean, verdicts) {
-        Judged::Refusal(number) => number as u32,
-        Judged::Done(j) => {
-            *judgement = judgement_values(j);
+    match judge(frames, clean, verdicts) {
+        Ok(judged) => {
+            *judgement = judgement_values(&judged);
             0
         }
+        Err(error) => u32::from(error.number()),
     }
+}
+
+// The slot to heal and its pair, zeros without one; writable, clean, refused.
+pub fn judgement_values(j: &Judgement) -> [u64; 5]
+    ensures { result ≡ judgement_values j.now }
+{
+    let (slot, pair) = match j.heal {
+        Some((pair, index)) => (u64::from(index.number()), pair as u64),
+        None => (0, 0),
+    };
+    [
+        slot,
+        pair,
+        u64::from(j.writable),
+        u64::from(j.clean),
+        u64::from(j.refused),
+    ]
 }

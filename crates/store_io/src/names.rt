@@ -1,27 +1,33 @@
 // Region names for C hosts.
 ghost use Rattle.std.specs.Prelude.{◌≡◌};
-ghost use Rattle.name.specs.Name.{named, padded};
-ghost use Rattle.store_io.specs.Host.{outcomeRefusal};
-ghost use Rattle.host_meta.specs.Metadata.{valuesOr, nameBytes, nameLength};
+ghost use Rattle.meta.specs.Error.{number};
+ghost use Rattle.meta.specs.Name.{named, padded};
+ghost use Rattle.store_io.specs.Host.{answer};
+ghost use Rattle.store_io.specs.Metadata.{name_found};
 
-use name::meta::{Named, RegionName};
+use meta::meta::{MetaError, RegionName};
+
+// Hands over a name that is one.
+fn give(named: Result<RegionName, MetaError>, stored: &mut [u8; 24], stored_len: &mut u8) -> u32
+    ensures { (result, (stored.new, stored_len.new)) ≡ answer number name_found (stored.old, stored_len.old) named }
+{
+    match named {
+        Ok(name) => {
+            let bytes = name.bytes;
+            *stored = bytes;
+            *stored_len = name.len;
+            0
+        }
+        Err(error) => u32::from(error.number()),
+    }
+}
 
 // Stores a name.
 #[unsafe(no_mangle)]
 pub extern "C" fn sio_region_name(name: &[u8], stored: &mut [u8; 24], stored_len: &mut u8) -> u32
-    ensures value { result ≡ outcomeRefusal (named name.now) }
-    ensures stored_after { stored.new ≡ valuesOr nameBytes stored.old (named name.now) }
-    ensures stored_len_after { stored_len.new ≡ valuesOr nameLength stored_len.old (named name.now) }
+    ensures { (result, (stored.new, stored_len.new)) ≡ answer number name_found (stored.old, stored_len.old) (named name.now) }
 {
-    match RegionName::new(name) {
-        Named::Refused(error) => error.number() as u32,
-        Named::Name(found) => {
-            let bytes = found.bytes;
-            *stored = bytes;
-            *stored_len = found.len;
-            0
-        }
-    }
+    give(RegionName::new(name), stored, stored_len)
 }
 
 // The same from 24 stored bytes.
@@ -31,18 +37,7 @@ pub extern "C" fn sio_region_name_padded(
     stored: &mut [u8; 24],
     stored_len: &mut u8,
 ) -> u32
-    ensures value { result ≡ outcomeRefusal (padded raw.now) }
-    ensures stored_after { stored.new ≡ valuesOr nameBytes stored.old (padded raw.now) }
-    ensures stored_len_after { stored_len.new ≡ valuesOr nameLength stored_len.old (padded raw.now) }
+    ensures { (result, (stored.new, stored_len.new)) ≡ answer number name_found (stored.old, stored_len.old) (padded raw.now) }
 {
-    let padded = *raw;
-    match RegionName::from_padded(padded) {
-        Named::Refused(error) => error.number() as u32,
-        Named::Name(found) => {
-            let bytes = found.bytes;
-            *stored = bytes;
-            *stored_len = found.len;
-            0
-        }
-    }
+    give(RegionName::from_padded(*raw), stored, stored_len)
 }

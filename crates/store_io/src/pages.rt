@@ -1,13 +1,14 @@
 // Table pages for C hosts.
-ghost use Rattle.std.specs.Prelude.{◌≡◌, length};
-ghost use Rattle.page.specs.Read.{decodePage};
-ghost use Rattle.page_write.specs.Write.{encodePage, encodedPage};
-ghost use Rattle.store_io.specs.Host.{outcomeRefusal, outcomeOr};
-ghost use Rattle.host_meta.specs.Metadata.{valuesOr, headerOf, pageValues};
+ghost use Rattle.std.specs.Prelude.{◌≡◌};
+ghost use Rattle.meta.specs.Error.{number};
+ghost use Rattle.meta.specs.Page.{decode_page};
+ghost use Rattle.store_io.specs.Arguments.{page_of};
+ghost use Rattle.store_io.specs.Host.{answer, encoded};
+ghost use Rattle.store_io.specs.Metadata.{page_values, encode_entries};
 
-use host_meta::pages::page_values;
-use page::meta2::{Page, PageHeader, PageRead};
-use region::meta::MetaEncoded;
+use crate::answers::give;
+use meta::meta::MetaError;
+use meta::meta2::{ENTRY2_LEN, PAGE_HEADER_LEN, PageHeader, decode_page, encode_page};
 
 // Decodes a page.
 #[unsafe(no_mangle)]
@@ -17,16 +18,28 @@ pub extern "C" fn sio_decode_page(
     max_entries: u16,
     found: &mut [u64; 5],
 ) -> u32
-    ensures value { result ≡ outcomeRefusal (decodePage bytes.now page_index max_entries) }
-    ensures found_after { found.new ≡ valuesOr pageValues found.old (decodePage bytes.now page_index max_entries) }
+    ensures { (result, found.new) ≡ answer number page_values found.old (decode_page bytes.now page_index max_entries) }
 {
-    match page::meta2::decode_page(bytes, page_index, max_entries) {
-        PageRead::Refused(error) => error.number() as u32,
-        PageRead::Page(p) => {
-            *found = page_values(p);
+    match decode_page(bytes, page_index, max_entries) {
+        Ok(page) => {
+            *found = page_values(&page.header);
             0
         }
+        Err(error) => u32::from(error.number()),
     }
+}
+
+// Index, next seq and count, then the start and the length of the entries.
+pub fn page_values(h: &PageHeader) -> [u64; 5]
+    ensures { result ≡ page_values h.now }
+{
+    [
+        u64::from(h.page_index),
+        u64::from(h.next_seq),
+        u64::from(h.count),
+        PAGE_HEADER_LEN as u64,
+        u64::from(h.count) * ENTRY2_LEN as u64,
+    ]
 }
 
 // Encodes a page.
@@ -39,20 +52,16 @@ pub extern "C" fn sio_encode_page(
     entries: &[u8],
     written: &mut usize,
 ) -> u32
-    ensures value { result ≡ outcomeRefusal (encodePage (headerOf page_index next_seq count) entries.now (length bytes.old)) }
-    ensures written_after { written.new ≡ outcomeOr written.old (encodePage (headerOf page_index next_seq count) entries.now (length bytes.old)) }
-    ensures bytes_after { bytes.new ≡ encodedPage (headerOf page_index next_seq count) entries.now bytes.old }
+    ensures { (result, written.new, bytes.new) ≡ encoded number written.old (encode_entries (page_of page_index next_seq count) entries.now bytes.old) }
 {
     let header = PageHeader {
         page_index,
         next_seq,
         count,
     };
-    match page_write::encode_page(bytes, header, entries) {
-        MetaEncoded::Refused(error) => error.number() as u32,
-        MetaEncoded::Length(len) => {
-            *written = len;
-            0
-        }
+    let (entries, rest) = entries.as_chunks::<ENTRY2_LEN>();
+    if !rest.is_empty() {
+        return u32::from(MetaError::Length.number());
     }
+    give(encode_page(bytes, &header, entries), written)
 }

@@ -1,9 +1,14 @@
 // Pairs for C hosts.
 ghost use Rattle.std.specs.Prelude.{◌≡◌};
-ghost use Rattle.pair.specs.Pair.{decide};
-ghost use Rattle.host_slots.specs.Pairs.{statusOf, decideRefusal, decideReport};
+ghost use Rattle.slot.specs.Numbers.{status_of};
+ghost use Rattle.store_io.specs.Arguments.{valid_of};
+ghost use Rattle.store_io.specs.Pairs.{report_bytes, decide_answer};
 
-use host_slots::pairs::{report_bytes, status_of};
+use crate::arguments::valid_of;
+use judge::verdict::JudgeError;
+use pair::pair::{PairReport, decide};
+use slot::numbers::choice_number;
+use slot::slot::SlotStatus;
 
 // The current version of a pair.
 #[unsafe(no_mangle)]
@@ -18,27 +23,30 @@ pub extern "C" fn sio_decide(
     b_prev_header_crc32c: u32,
     report: &mut [u8; 5],
 ) -> u32
-    ensures value { result ≡ decideRefusal a_status b_status }
-    ensures report_after { report.new ≡ decideReport a_status b_status (decide (statusOf a_status a_generation a_header_crc32c a_prev_header_crc32c) (statusOf b_status b_generation b_header_crc32c b_prev_header_crc32c)) report.old }
+    ensures { (result, report.new) ≡ decide_answer report.old (status_of a_status (valid_of a_generation a_header_crc32c a_prev_header_crc32c)) (status_of b_status (valid_of b_generation b_header_crc32c b_prev_header_crc32c)) }
 {
-    if 12 < a_status {
-        return 10;
-    }
-    if 12 < b_status {
-        return 10;
-    }
-    let a = status_of(
-        a_status,
-        a_generation,
-        a_header_crc32c,
-        a_prev_header_crc32c,
-    );
-    let b = status_of(
-        b_status,
-        b_generation,
-        b_header_crc32c,
-        b_prev_header_crc32c,
-    );
-    *report = report_bytes(pair::pair::decide(a, b));
+    let a = valid_of(a_generation, a_header_crc32c, a_prev_header_crc32c);
+    let b = valid_of(b_generation, b_header_crc32c, b_prev_header_crc32c);
+    let (Some(a), Some(b)) = (
+        SlotStatus::from_code(a_status, a),
+        SlotStatus::from_code(b_status, b),
+    ) else {
+        return u32::from(JudgeError::OutOfRange.number());
+    };
+    *report = report_bytes(&decide(a, b));
     0
+}
+
+// The winner's standing and slot, gap, chain break, and the slot of the next write.
+#[tactic(auto, unfolding(crate::specs::Pairs::report_bytes))]
+pub fn report_bytes(report: &PairReport) -> [u8; 5]
+    ensures { result ≡ report_bytes report.now }
+{
+    [
+        report.winner.number(),
+        report.winner.slot(),
+        u8::from(report.generation_gap),
+        u8::from(report.chain_break),
+        choice_number(report.next_write()),
+    ]
 }

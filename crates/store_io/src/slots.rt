@@ -1,16 +1,18 @@
-// Slots for C hosts: the volume id as two numbers, any index but 0 is B, any `numbered` but 0 is yes.
+// Slots for C hosts.
 ghost use Rattle.std.specs.Prelude.{◌≡◌};
-ghost use Rattle.slot.specs.Status.{code, statusValues, factsNumber, factsValues};
-ghost use Rattle.slot.specs.Read.{validate, headerFacts};
-ghost use Rattle.slot.specs.Write.{encode, encodedBytes};
-ghost use Rattle.frame.specs.Frame.{part_of, partBytes};
-ghost use Rattle.host_slots.specs.Slots.{fields_of, expectOf};
-ghost use Rattle.store_io.specs.Host.{outcomeRefusal, outcomeOr};
+ghost use Rattle.slot.specs.Status.{error_number};
+ghost use Rattle.slot.specs.Read.{validate, header_facts};
+ghost use Rattle.slot.specs.Write.{encode};
+ghost use Rattle.store_io.specs.Arguments.{expect_of, fields_of};
+ghost use Rattle.store_io.specs.Host.{encoded};
+ghost use Rattle.store_io.specs.Slots.{status_answer, facts_values, facts_answer, part_answer};
 
-use encode::Encoded;
-use frame::frame::SlotPart;
-use host_slots::slots::{error_number, expect_of, facts_number, facts_values, index_of, volume_id};
-use slot::slot::SlotFields;
+use crate::arguments::{expect_of, index_of, volume_id};
+use judge::pairs::Version;
+use judge::part::{PART, SlotPart, facts_number};
+use slot::encode::encode;
+use slot::slot::{HeaderFacts, SlotFields};
+use slot::validate::{header_facts, read_slot, validate};
 
 // Encodes a complete slot.
 #[unsafe(no_mangle)]
@@ -31,9 +33,7 @@ pub extern "C" fn sio_encode(
     payload: &[u8],
     header_crc32c: &mut u32,
 ) -> u32
-    ensures value { result ≡ outcomeRefusal (encode (fields_of volume0 volume1 object_id generation owner_generation slot_offset index log2_slot_size prev_header_crc32c format_major meta_seq compat_flags) payload.now slot.old) }
-    ensures header_crc32c_after { header_crc32c.new ≡ outcomeOr header_crc32c.old (encode (fields_of volume0 volume1 object_id generation owner_generation slot_offset index log2_slot_size prev_header_crc32c format_major meta_seq compat_flags) payload.now slot.old) }
-    ensures slot_after { slot.new ≡ encodedBytes (fields_of volume0 volume1 object_id generation owner_generation slot_offset index log2_slot_size prev_header_crc32c format_major meta_seq compat_flags) payload.now slot.old }
+    ensures { (result, header_crc32c.new, slot.new) ≡ encoded error_number header_crc32c.old (encode (fields_of volume0 volume1 object_id generation owner_generation slot_offset index log2_slot_size prev_header_crc32c format_major meta_seq compat_flags) payload.now slot.old) }
 {
     let fields = SlotFields {
         volume_uuid: volume_id(volume0, volume1),
@@ -48,12 +48,12 @@ pub extern "C" fn sio_encode(
         meta_seq,
         compat_flags,
     };
-    match encode::encode(slot, fields, payload) {
-        Encoded::Crc(crc) => {
+    match encode(slot, &fields, payload) {
+        Ok(crc) => {
             *header_crc32c = crc;
             0
         }
-        Encoded::Refused(error) => error_number(error),
+        Err(error) => u32::from(error.number()),
     }
 }
 
@@ -71,8 +71,7 @@ pub extern "C" fn sio_validate(
     numbered: u32,
     found: &mut [u64; 9],
 ) -> u32
-    ensures value { result ≡ code (validate slot.now (expectOf volume0 volume1 object_id slot_offset index log2_slot_size format_major numbered)) }
-    ensures found_after { found.new ≡ statusValues (validate slot.now (expectOf volume0 volume1 object_id slot_offset index log2_slot_size format_major numbered)) }
+    ensures { (result, found.new) ≡ status_answer (validate slot.now (expect_of volume0 volume1 object_id slot_offset index log2_slot_size format_major numbered)) }
 {
     let e = expect_of(
         volume0,
@@ -84,9 +83,9 @@ pub extern "C" fn sio_validate(
         format_major,
         numbered,
     );
-    let status = validate::validate(slot, e);
-    *found = winner::status_values(status);
-    status.code() as u32
+    let status = validate(slot, &e);
+    *found = status.values();
+    u32::from(status.code())
 }
 
 // What a slot's header shows.
@@ -103,8 +102,7 @@ pub extern "C" fn sio_header_facts(
     numbered: u32,
     found: &mut [u64; 4],
 ) -> u32
-    ensures value { result ≡ factsNumber (headerFacts slot.now (expectOf volume0 volume1 object_id slot_offset index log2_slot_size format_major numbered)) }
-    ensures found_after { found.new ≡ factsValues (headerFacts slot.now (expectOf volume0 volume1 object_id slot_offset index log2_slot_size format_major numbered)) }
+    ensures { (result, found.new) ≡ facts_answer (header_facts slot.now (expect_of volume0 volume1 object_id slot_offset index log2_slot_size format_major numbered)) }
 {
     let e = expect_of(
         volume0,
@@ -116,9 +114,22 @@ pub extern "C" fn sio_header_facts(
         format_major,
         numbered,
     );
-    let facts = validate::header_facts(slot, e);
+    let facts = header_facts(slot, &e);
     *found = facts_values(facts);
-    facts_number(facts)
+    u32::from(facts_number(facts))
+}
+
+// Stored checksum, generation, number, previous checksum; zeros for those not shown.
+pub fn facts_values(facts: Option<HeaderFacts>) -> [u64; 4]
+    ensures { result ≡ facts_values facts }
+{
+    let v = Version::of_facts(facts);
+    [
+        u64::from(v.header_crc32c),
+        v.generation,
+        v.meta_seq,
+        u64::from(v.prev_header_crc32c),
+    ]
 }
 
 // A slot's part of a frame.
@@ -133,10 +144,9 @@ pub extern "C" fn sio_frame_slot(
     log2_slot_size: u8,
     format_major: u16,
     numbered: u32,
-    part: &mut [u8; 26],
+    part: &mut [u8; PART],
 ) -> u32
-    ensures value { result ≡ code (validate slot.now (expectOf volume0 volume1 object_id slot_offset index log2_slot_size format_major numbered)) }
-    ensures part_after { part.new ≡ partBytes (part_of (validate slot.now (expectOf volume0 volume1 object_id slot_offset index log2_slot_size format_major numbered)) (headerFacts slot.now (expectOf volume0 volume1 object_id slot_offset index log2_slot_size format_major numbered))) }
+    ensures { (result, part.new) ≡ part_answer slot.now (expect_of volume0 volume1 object_id slot_offset index log2_slot_size format_major numbered) }
 {
     let e = expect_of(
         volume0,
@@ -148,8 +158,7 @@ pub extern "C" fn sio_frame_slot(
         format_major,
         numbered,
     );
-    let status = validate::validate(slot, e);
-    let facts = validate::header_facts(slot, e);
+    let (status, facts) = read_slot(slot, &e);
     *part = SlotPart::new(status, facts).bytes();
-    status.code() as u32
+    u32::from(status.code())
 }

@@ -1,30 +1,28 @@
 // The volume record for C hosts.
 ghost use Rattle.std.specs.Prelude.{◌≡◌};
-ghost use Rattle.codec.specs.Bytes.{putWhole};
-ghost use Rattle.region.specs.Block.{entriesPerPage};
-ghost use Rattle.region.specs.Error.{fitted};
-ghost use Rattle.volume_base.specs.Base.{decodeBase, baseBytes};
-ghost use Rattle.volume.specs.Volume.{decodeVolume, volumeBytes, table_end, fileCheck};
-ghost use Rattle.store_io.specs.Host.{outcomeRefusal, outcomeOr};
-ghost use Rattle.host_meta.specs.Metadata.{valuesOr, base_of, volumeOf, table_of, baseValues, volumeValues};
+ghost use Rattle.meta.specs.Base.{decode_base, encode_base};
+ghost use Rattle.meta.specs.Block.{entries_per_page};
+ghost use Rattle.meta.specs.Error.{number};
+ghost use Rattle.meta.specs.Volume.{decode_volume, encode_volume, table_end, check_file_len};
+ghost use Rattle.store_io.specs.Arguments.{base_of, volume_of, table_of};
+ghost use Rattle.store_io.specs.Host.{answer, encoded, refusal};
+ghost use Rattle.store_io.specs.Metadata.{base_values, volume_values};
 
-use host_meta::volumes::{base_values, table_of, volume_values};
-use region::meta::{Check, MetaEncoded};
-use volume::meta2::{TableEnd, VolumeMeta2, VolumeMeta2Read};
-use volume_base::meta::{VolumeMeta, VolumeMetaRead};
+use crate::answers::give;
+use meta::meta::VolumeMeta;
+use meta::meta2::{VolumeMeta2, entries_per_page};
 
 // Decodes a record of 64 bytes.
 #[unsafe(no_mangle)]
 pub extern "C" fn sio_volume_decode(bytes: &[u8], found: &mut [u64; 11]) -> u32
-    ensures value { result ≡ outcomeRefusal (decodeVolume bytes.now) }
-    ensures found_after { found.new ≡ valuesOr volumeValues found.old (decodeVolume bytes.now) }
+    ensures { (result, found.new) ≡ answer number volume_values found.old (decode_volume bytes.now) }
 {
     match VolumeMeta2::decode(bytes) {
-        VolumeMeta2Read::Refused(error) => error.number() as u32,
-        VolumeMeta2Read::Record(v) => {
-            *found = volume_values(v);
+        Ok(v) => {
+            *found = volume_values(&v);
             0
         }
+        Err(error) => u32::from(error.number()),
     }
 }
 
@@ -45,9 +43,7 @@ pub extern "C" fn sio_volume_encode(
     flags: u32,
     written: &mut usize,
 ) -> u32
-    ensures value { result ≡ outcomeRefusal (fitted 64 bytes.old) }
-    ensures written_after { written.new ≡ outcomeOr written.old (fitted 64 bytes.old) }
-    ensures bytes_after { bytes.new ≡ putWhole bytes.old 0 (volumeBytes (volumeOf (base_of log2_block_size log2_table_slot_size device_index owner_generation table_offset created_unix_s features) table_pages entries_per_page clean_close flags)) }
+    ensures { (result, written.new, bytes.new) ≡ encoded number written.old (encode_volume (volume_of (base_of log2_block_size log2_table_slot_size device_index owner_generation table_offset created_unix_s features) table_pages entries_per_page clean_close flags) bytes.old) }
 {
     let record = VolumeMeta2 {
         base: VolumeMeta {
@@ -64,27 +60,20 @@ pub extern "C" fn sio_volume_encode(
         clean_close: clean_close != 0,
         flags,
     };
-    match record.encode(bytes) {
-        MetaEncoded::Refused(error) => error.number() as u32,
-        MetaEncoded::Length(len) => {
-            *written = len;
-            0
-        }
-    }
+    give(record.encode(bytes), written)
 }
 
 // Decodes the 48 bytes that both formats have.
 #[unsafe(no_mangle)]
 pub extern "C" fn sio_volume_base_decode(bytes: &[u8], found: &mut [u64; 7]) -> u32
-    ensures value { result ≡ outcomeRefusal (decodeBase bytes.now) }
-    ensures found_after { found.new ≡ valuesOr baseValues found.old (decodeBase bytes.now) }
+    ensures { (result, found.new) ≡ answer number base_values found.old (decode_base bytes.now) }
 {
     match VolumeMeta::decode(bytes) {
-        VolumeMetaRead::Refused(error) => error.number() as u32,
-        VolumeMetaRead::Record(v) => {
-            *found = base_values(v);
+        Ok(v) => {
+            *found = base_values(&v);
             0
         }
+        Err(error) => u32::from(error.number()),
     }
 }
 
@@ -101,9 +90,7 @@ pub extern "C" fn sio_volume_base_encode(
     features: u64,
     written: &mut usize,
 ) -> u32
-    ensures value { result ≡ outcomeRefusal (fitted 48 bytes.old) }
-    ensures written_after { written.new ≡ outcomeOr written.old (fitted 48 bytes.old) }
-    ensures bytes_after { bytes.new ≡ putWhole bytes.old 0 (baseBytes (base_of log2_block_size log2_table_slot_size device_index owner_generation table_offset created_unix_s features)) }
+    ensures { (result, written.new, bytes.new) ≡ encoded number written.old (encode_base (base_of log2_block_size log2_table_slot_size device_index owner_generation table_offset created_unix_s features) bytes.old) }
 {
     let record = VolumeMeta {
         log2_block_size,
@@ -114,21 +101,36 @@ pub extern "C" fn sio_volume_base_encode(
         created_unix_s,
         features,
     };
-    match record.encode(bytes) {
-        MetaEncoded::Refused(error) => error.number() as u32,
-        MetaEncoded::Length(len) => {
-            *written = len;
-            0
-        }
-    }
+    give(record.encode(bytes), written)
 }
 
 // Entries of a page.
 #[unsafe(no_mangle)]
 pub extern "C" fn sio_entries_per_page(log2_table: u8) -> u32
-    ensures { result ≡ entriesPerPage log2_table }
+    ensures { result ≡ entries_per_page log2_table }
 {
-    region::meta2::entries_per_page(log2_table) as u32
+    u32::from(entries_per_page(log2_table))
+}
+
+// A record with a table's geometry, zeros elsewhere.
+pub fn table_of(log2_block_size: u8, log2_table_slot_size: u8, table_pages: u32) -> VolumeMeta2
+    ensures { result ≡ table_of log2_block_size log2_table_slot_size table_pages }
+{
+    VolumeMeta2 {
+        base: VolumeMeta {
+            log2_block_size,
+            log2_table_slot_size,
+            device_index: 0,
+            owner_generation: 0,
+            table_offset: 0,
+            created_unix_s: 0,
+            features: 0,
+        },
+        table_pages,
+        entries_per_page: 0,
+        clean_close: false,
+        flags: 0,
+    }
 }
 
 // Where the table ends.
@@ -139,17 +141,12 @@ pub extern "C" fn sio_table_end(
     table_pages: u32,
     end: &mut u64,
 ) -> u32
-    ensures value { result ≡ outcomeRefusal (table_end (table_of log2_block_size log2_table_slot_size table_pages)) }
-    ensures end_after { end.new ≡ outcomeOr end.old (table_end (table_of log2_block_size log2_table_slot_size table_pages)) }
+    ensures { (result, end.new) ≡ answer number (λ n. n) end.old (table_end (table_of log2_block_size log2_table_slot_size table_pages)) }
 {
-    let record = table_of(log2_block_size, log2_table_slot_size, table_pages);
-    match record.table_end() {
-        TableEnd::Refused(error) => error.number() as u32,
-        TableEnd::At(at) => {
-            *end = at;
-            0
-        }
-    }
+    give(
+        table_of(log2_block_size, log2_table_slot_size, table_pages).table_end(),
+        end,
+    )
 }
 
 // Whether the table ends within a file.
@@ -160,11 +157,46 @@ pub extern "C" fn sio_check_file_len(
     table_pages: u32,
     file_len: u64,
 ) -> u32
-    ensures { result ≡ outcomeRefusal (fileCheck (table_of log2_block_size log2_table_slot_size table_pages) file_len) }
+    ensures { result ≡ refusal number (check_file_len (table_of log2_block_size log2_table_slot_size table_pages) file_len) }
 {
     let record = table_of(log2_block_size, log2_table_slot_size, table_pages);
     match record.check_file_len(file_len) {
-        Check::Fail(error) => error.number() as u32,
-        Check::Pass => 0,
+        Ok(()) => 0,
+        Err(error) => u32::from(error.number()),
     }
+}
+
+// The numbers of a base, in the layout's order.
+pub fn base_values(v: &VolumeMeta) -> [u64; 7]
+    ensures { result ≡ base_values v.now }
+{
+    [
+        u64::from(v.log2_block_size),
+        u64::from(v.log2_table_slot_size),
+        u64::from(v.device_index),
+        v.owner_generation,
+        v.table_offset,
+        v.created_unix_s,
+        v.features,
+    ]
+}
+
+// The base's numbers, then pages, entries a page, clean mark and flags.
+pub fn volume_values(v: &VolumeMeta2) -> [u64; 11]
+    ensures { result ≡ volume_values v.now }
+{
+    let b = base_values(&v.base);
+    [
+        b[0],
+        b[1],
+        b[2],
+        b[3],
+        b[4],
+        b[5],
+        b[6],
+        u64::from(v.table_pages),
+        u64::from(v.entries_per_page),
+        u64::from(v.clean_close),
+        u64::from(v.flags),
+    ]
 }

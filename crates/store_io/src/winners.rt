@@ -1,14 +1,12 @@
 // The winner's payload for C hosts: its slot, and where it lies in that slot's bytes.
 ghost use Rattle.std.specs.Prelude.{◌≡◌, List, ℕ, length};
 ghost use Rattle.std.specs.Borrow.{Bor};
-ghost use Rattle.slot.specs.Status.{statusValues};
-ghost use Rattle.pair.specs.Pair.{winnerInfo};
-ghost use Rattle.pair.specs.Numbers.{reportNumbers, winnerIndex};
-ghost use Rattle.winner.specs.Winner.{WinnerPart};
-ghost use Rattle.host_slots.specs.Winners.{pair_of, winnerStart, winnerLength, PlacedAt};
+ghost use Rattle.pair.specs.Pair.{winner_info};
+ghost use Rattle.pair.specs.Winner.{WinnerPart};
+ghost use Rattle.store_io.specs.Winners.{pair_of, winner_answer, PlacedAt};
 
-use host_slots::slots::expect_of;
-use host_slots::winners::winner_place;
+use crate::arguments::expect_of;
+use pair::winner::winner_payload;
 
 // Validates both slots of a pair and names the winner's payload.
 #[unsafe(no_mangle)]
@@ -29,13 +27,8 @@ pub extern "C" fn sio_winner_payload<'a>(
     start: &mut usize,
     payload_len: &mut usize,
 ) -> u32
-    ensures value { result ≡ winnerIndex (winnerInfo (pair_of a.now b.now volume0 volume1 object_id a_offset b_offset log2_slot_size format_major numbered)) }
-    ensures values_a_after { values_a.new ≡ statusValues (pair_of a.now b.now volume0 volume1 object_id a_offset b_offset log2_slot_size format_major numbered).a }
-    ensures values_b_after { values_b.new ≡ statusValues (pair_of a.now b.now volume0 volume1 object_id a_offset b_offset log2_slot_size format_major numbered).b }
-    ensures report_after { report.new ≡ reportNumbers (pair_of a.now b.now volume0 volume1 object_id a_offset b_offset log2_slot_size format_major numbered) }
-    ensures start_after { start.new ≡ winnerStart (length a.now) (length b.now) (winnerInfo (pair_of a.now b.now volume0 volume1 object_id a_offset b_offset log2_slot_size format_major numbered)) }
-    ensures payload_len_after { payload_len.new ≡ winnerLength (length a.now) (length b.now) (winnerInfo (pair_of a.now b.now volume0 volume1 object_id a_offset b_offset log2_slot_size format_major numbered)) }
-    ensures place { (part : Bor (List ℕ)) → WinnerPart (winnerInfo (pair_of a.now b.now volume0 volume1 object_id a_offset b_offset log2_slot_size format_major numbered)) a.entry b.entry part → PlacedAt result start.new payload_len.new a.entry b.entry part }
+    ensures found { (result, values_a.new, values_b.new, report.new, start.new, payload_len.new) ≡ winner_answer (length a.now) (length b.now) (pair_of a.now b.now volume0 volume1 object_id a_offset b_offset log2_slot_size format_major numbered) }
+    ensures place { (part : Bor (List ℕ)) → WinnerPart (winner_info (pair_of a.now b.now volume0 volume1 object_id a_offset b_offset log2_slot_size format_major numbered)) a.entry b.entry part → PlacedAt result start.new payload_len.new a.entry b.entry part }
 {
     let expect_a = expect_of(
         volume0,
@@ -57,12 +50,16 @@ pub extern "C" fn sio_winner_payload<'a>(
         format_major,
         numbered,
     );
-    let read = winner::read_pair(a, expect_a, b, expect_b);
-    *values_a = winner::status_values(read.a);
-    *values_b = winner::status_values(read.b);
-    *report = winner::report_numbers(read);
-    let place = winner_place(read.winner_info(), a, b);
-    *start = place.start;
-    *payload_len = place.len;
-    place.slot
+    let (read, payload) = winner_payload(a, &expect_a, b, &expect_b);
+    *values_a = read.a.values();
+    *values_b = read.b.values();
+    *report = read.numbers();
+    let Some((index, info)) = read.winner_info() else {
+        *start = 0;
+        *payload_len = 0;
+        return 0;
+    };
+    *start = usize::from(info.payload_start);
+    *payload_len = payload.len();
+    u32::from(index.number())
 }

@@ -1,4 +1,4 @@
-use Rattle.std.proofs.Common.{rules, refl}
+use Rattle.std.proofs.Common.{refl}
 use Rattle.meta.proofs.Utf8Laws.{utf8_from_std, not_utf8}
 use Rattle.meta.proofs.meta.text.Goals as goal
 

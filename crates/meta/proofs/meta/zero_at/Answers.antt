@@ -1,6 +1,4 @@
-use Rattle.std.proofs.Common.{◌≡◌, ◌==◌, ◌<◌, ◌≤◌, ℕ, sym, ap, true, false, rules, tests, List, length, Option, Some, None, arith}
-use Rattle.std.specs.Option.{MatchOption}
-use Rattle.std.specs.List.{AllWithin, HoldsAt}
+use Rattle.std.proofs.Common.{◌≡◌, ◌==◌, ℕ, true, false, rules, tests}
 use Rattle.std.proofs.lemmas.Iterator.{YieldsList-from_slice, IsFirst-from_position}
 use Rattle.meta.proofs.NameLaws.{first_some, first_none}
 use Rattle.meta.proofs.meta.zero_at.Goals as goal

@@ -1,4 +1,0 @@
-pub mod Slots
-pub mod Pairs
-pub mod Judging
-pub mod Winners

@@ -1,0 +1,18 @@
+// The places of C's numbers. The functions do nothing: their contracts are the tables.
+ghost use Rattle.store_io.specs.Tables.{ArgumentPlaces, SlotPlaces, PairPlaces, JudgementPlaces, RecordPlaces, EntryPlaces};
+
+// What a number stands for that a C host hands over,
+#[tactic(auto, unfolding(crate::specs::Arguments::volume_id))]
+pub fn arguments_table()
+    ensures { ArgumentPlaces }
+{}
+
+// and where a C host finds the numbers of what is answered.
+#[tactic(auto, unfolding(crate::specs::Pairs::report_bytes, pair::specs::Numbers::report_numbers))]
+pub fn numbers_table()
+    ensures slots { SlotPlaces }
+    ensures pairs { PairPlaces }
+    ensures judgements { JudgementPlaces }
+    ensures records { RecordPlaces }
+    ensures entries { EntryPlaces }
+{}
