@@ -151,6 +151,7 @@ impl Tail {
 
     /// The rules of these fields beside a base that passed its own.
     #[tactic(auto, unfolding(crate::specs::Volume::check_tail), using(crate::proofs::BlockLaws::block_range))]
+    #[inline(always)]
     fn check(&self, base: &VolumeMeta) -> Result<(), MetaError>
         ensures { result ≡ check_tail base.now self.now }
     {
@@ -388,6 +389,7 @@ impl Entry2 {
 impl RawEntry {
     /// The entry in the first 96 bytes.
     #[tactic(auto, unfolding(crate::specs::Entry::entry_at))]
+    #[inline(always)]
     pub fn read(bytes: &[u8]) -> Result<Self, MetaError>
         ensures { result ≡ read_entry bytes.now }
     {
