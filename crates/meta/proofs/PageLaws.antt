@@ -188,22 +188,23 @@ entries_checked next (e ∷ es) (Issued.more below alone rest) (Zeros.more first
 
 -- ---- what is decoded
 
-record PageDecoded (s : List ℕ) (most : ℕ) (h : PageHeader) : Type 0 where
+record PageDecoded (s : List ℕ) (index most : ℕ) (h : PageHeader) : Type 0 where
   is : h ≡ header_fields s
   zeros : list_all (λ b. b == 0) (take 14 (drop 10 s)) ≡ true
+  index_is : h.page_index ≡ index
   within : h.count ≤ most
   given_out : h.count ≤ h.next_seq
   size : length s ≡ 24 + h.count * 96
   checked : Checked h.next_seq (entries s)
 
-page_decoded : (s : List ℕ) (index most : ℕ) (h : PageHeader) → decode_page s index most ≡ Ok h → PageDecoded s most h
+page_decoded : (s : List ℕ) (index most : ℕ) (h : PageHeader) → decode_page s index most ≡ Ok h → PageDecoded s index most h
 unfolding decode_page
 page_decoded s index most h is = go (ltb (length s) 24) (rw (header_layout s) at is)
   where
     at : PageHeader
     at = header_fields s
 
-    go : (short : Bool) → decoded_page s index most (if short then None else Some (header_fields s, take 14 (drop 10 s))) ≡ Ok h → PageDecoded s most h
+    go : (short : Bool) → decoded_page s index most (if short then None else Some (header_fields s, take 14 (drop 10 s))) ≡ Ok h → PageDecoded s index most h
     go true is = let never : ◌≡◌ {A = ℕ} 0 1 = cc in absurd (omega arith)
     go false is =
         let zeros = passed (not (list_all (λ b. b == 0) (take 14 (drop 10 s)))) _ is in
@@ -216,6 +217,7 @@ page_decoded s index most h is = go (ltb (length s) 24) (rw (header_layout s) at
         (record {
           is = refl;
           zeros = not-false _ zeros.0;
+          index_is = eqb-true _ _ (not-false _ same.0);
           within = grind arith;
           given_out = grind arith;
           size = eqb-true _ _ (not-false _ size.0);
