@@ -1,3 +1,3 @@
-pub mod Hex
 pub mod Line
-pub mod Number
+pub mod Input
+pub mod Compare

@@ -1,31 +1,24 @@
 -- The fields of a line: the name up to the first space, the input up to the second, and behind it what is expected.
-use Rattle.std.specs.Prelude.{cond, List, [], ◌∷◌, ℕ, suc, ◌+◌, ltb, eqb, length, drop}
-use Rattle.cases.specs.declared.line.Fields.{Fields}
+use Rattle.std.specs.Prelude.{if◌then◌else◌, ◌==◌, List, [], ◌∷◌, ℕ, Option, Some, None}
+use Rattle.std.specs.List.{list_all}
+use Rattle.std.specs.Option.{option_map, option_and_then}
+use Rattle.std.specs.Result.{result_ok}
+use Rattle.std.specs.declared.vec.Vec.{Vec}
+use Rattle.std.specs.declared.alloc.Global.{Global}
+use Rattle.hex.specs.Hex.{decode_of}
+use Rattle.verdict_text.specs.Read.{is_digit, cut}
 
--- What ends a line.
-abbrev pub newline : ℕ
-newline = 0x0a
+abbrev pub rest_fields : List ℕ × List ℕ → Option (List ℕ × List ℕ × List ℕ)
+rest_fields parts = option_map (λ (others : List ℕ × List ℕ). (parts.0, others.0, others.1)) (cut 0x20 parts.1)
 
--- How many characters stand before the first c: all of them where there is none.
-unfoldable pub until : ℕ → List ℕ → ℕ
-until c [] = 0
-until c (x ∷ xs) = cond (eqb x c) 0 (suc (until c xs))
+abbrev pub fields : List ℕ → Option (List ℕ × List ℕ × List ℕ)
+fields line = option_and_then rest_fields (cut 0x20 line)
 
--- The place of the first c of s at i or behind it; where there is none, the end of s, or i itself if that is past the end.
-abbrev pub next : ℕ → List ℕ → ℕ → ℕ
-next c s i = i + until c (drop i s)
+-- The bytes of a field, two lower-case digits each: "-" stands for no bytes, and no field is empty.
+abbrev pub field_bytes : List ℕ → Option (List ℕ)
+field_bytes [] = None
+field_bytes (c ∷ []) = if c == 0x2d then Some [] else None
+field_bytes (high ∷ low ∷ rest) = if list_all is_digit (high ∷ low ∷ rest) then result_ok (decode_of (high ∷ low ∷ rest)) else None
 
--- The places of the first space and of the second.
-abbrev pub nameEnd : List ℕ → ℕ
-nameEnd line = next 0x20 line 0
-
-abbrev pub inputEnd : List ℕ → ℕ
-inputEnd line = next 0x20 line (nameEnd line + 1)
-
-unfoldable pub fields : List ℕ → Fields
-fields line =
-    cond (ltb (nameEnd line) (length line))
-    (cond (ltb (inputEnd line) (length line))
-    (Fields.At (nameEnd line) (nameEnd line + 1) (inputEnd line) (inputEnd line + 1))
-    Fields.Missing)
-    Fields.Missing
+abbrev pub items_of : Option (Vec ℕ Global) → Option (List ℕ)
+items_of bytes = option_map (λ (v : Vec ℕ Global). v.items) bytes

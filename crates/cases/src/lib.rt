@@ -1,6 +1,6 @@
-// Lists of cases, one a line: `NAME INPUT EXPECTED`, the two last fields bytes in hexadecimal.
+// Lists of cases, one a line, `NAME INPUT EXPECTED`: what stands in a line, what stands in an input, and a list replayed.
 #![tactic(auto)]
 
-pub mod hex;
+pub mod input;
 pub mod line;
-pub mod number;
+pub mod replay;

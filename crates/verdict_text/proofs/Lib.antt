@@ -1,4 +1,3 @@
-pub mod StrideLaws
 pub mod ReadLaws
-pub mod JudgeLaws
-pub mod ResponseLaws
+pub mod JudgedLaws
+pub mod StepLaws

@@ -1,196 +1,149 @@
--- The lines by their newlines give the mark and the frames that the code finds by their widths, for every text. A newline is no digit: a
--- line of digits ends at the first newline, which stands where the code asks for one.
-use Rattle.std.proofs.Common.{◌≡◌, refl, sym, ap, ◌∙◌, Bool, true, false, cond, List, [], ◌∷◌, ◌++◌, ℕ, zero, suc, ◌*◌, ◌≤◌, ◌<◌, arith, eq-eqb, ne_eqb, eqb-true, eqb, length, get_or, take, drop, length-append, length-drop, take_at}
-use Rattle.std.proofs.Math.Option.{Option, some, none}
-use Rattle.std.proofs.Math.Seq.{split_at, get_or_at}
-use Rattle.cases.specs.Hex.{hexValue, decoded}
-use Rattle.cases.specs.Line.{newline}
-use Rattle.cases.proofs.HexLaws.{digits-here, left-more}
-use Rattle.judge_frames.specs.Frames.{frameWidth}
-use Rattle.verdict_text.specs.Read.{withLine, withChar, lines, mark_of, exactly, frame_of, joined, framesOf}
-use Rattle.verdict_text.specs.Stride.{markAt, markLine, frameLine, frame_at, frameLines, lineCount, framesIn}
-use Rattle.verdict_text.proofs.StrideLaws.{decoded-size, frame_here, frame-ended, frame-size}
+-- A text is cut at the place of its first newline, and its lines are the one cut off and those behind it; a frame's line has its width.
+use Rattle.std.proofs.Common.{◌≡◌, refl, sym, ap, ◌∙◌, Bool, true, false, ℕ, ◌+◌, ◌-◌, ◌*◌, ◌<◌, suc, List, [], ◌∷◌, ◌++◌, length, take, drop, append_assoc, arith, add-one, cond, nat_eq, nat_lt, ltb-true, ltb-false, lt-ltb, le-ltb, ◌≤◌, Option, Some, None, if◌then◌else◌}
+use Rattle.std.proofs.lemmas.Slice.{take-put_mid}
+use borrow.Rule.Slice.PartMut.{put_mid}
+use Rattle.std.specs.List.{list_all, position}
+use Rattle.std.specs.Option.{option_map, option_and_then}
+use Rattle.std.specs.Result.{result_ok}
+use Rattle.std.specs.declared.result.Result.{Result}
+use Rattle.std.specs.declared.result.Result.TheVariants.{Ok, Err}
+use Rattle.hex.specs.Hex.{decode_sized}
+use Rattle.hex.specs.declared.error.FromHexError.{FromHexError}
+use Rattle.hex.proofs.HexLemmas.{decode_sized-ok}
+use Rattle.judge.specs.Frames.{frame_width}
+use Rattle.verdict_text.specs.Read.{newline, is_digit, before, cut, frame_of, joined, mark_of, frames_of, with_char, lines, frames_in, store_of, store_in}
 
 -- ---- a line
 
--- A digit is no newline.
-no-newline : (c : ℕ) → hexValue c < 16 → c ≡ newline → ⊥
-unfolding hexValue
-no-newline c digit is = let no_digit : hexValue c ≡ 16 = rw is in omega arith
+abbrev pub parts_at : List ℕ → Option ℕ → Option (List ℕ × List ℕ)
+parts_at s o = option_map (λ (n : ℕ). (take n s, drop (n + 1) s)) o
 
-line-longer : (high low : ℕ) (line : List ℕ) (o : Option (List (List ℕ)))
-    → withChar high (withChar low (withLine line o)) ≡ withLine (high ∷ low ∷ line) o
-line-longer high low line none = refl
-line-longer high low line (some others) = refl
-
--- Digits up to a newline are the first line.
-digits-cut : (line bs rest : List ℕ) → decoded line ≡ some bs
-    → lines (line ++ newline ∷ rest) ≡ withLine line (lines rest)
-unfolding lines decoded
-digits-cut [] bs rest is = refl
-digits-cut (c ∷ []) bs rest is = let never : ◌≡◌ {A = ℕ} 0 1 = cc in absurd (omega arith)
-digits-cut (high ∷ low ∷ line) bs rest is =
-    let digits = digits-here (high ∷ low ∷ line) bs 0 is (omega arith) in
-    let others : decoded line ≡ some (drop 1 bs) = left-more (high ∷ low ∷ line) bs 0 is (omega arith) in
-    simp (ne_eqb high newline (no-newline high digits.0), ne_eqb low newline (no-newline low digits.1), digits-cut line (drop 1 bs) rest others)
-    (line-longer high low line (lines rest))
-
--- A first line stands in front, and a newline ends it.
-first_ended : (s line : List ℕ) (others : List (List ℕ)) → lines s ≡ some (line ∷ others) → s ≡ line ++ newline ∷ drop (suc (length line)) s
-unfolding lines
-first_ended [] line others is = let never : ◌≡◌ {A = ℕ} 0 1 = cc in absurd (omega arith)
-first_ended (c ∷ s) line others is = go (eqb c newline) (lines s) refl is (first_ended s)
+later : (k n : ℕ) → cond (nat_lt (1 + k) (suc n)) (Some (1 + k)) None ≡ option_map suc (cond (nat_lt k n) (Some k) None)
+later k n = go (nat_lt k n) refl
   where
-    go : (ended : Bool) (o : Option (List (List ℕ))) → eqb c newline ≡ ended
-        → cond ended (withLine [] o) (withChar c o) ≡ some (line ∷ others)
-        → ((front : List ℕ) (behind : List (List ℕ)) → o ≡ some (front ∷ behind) → s ≡ front ++ newline ∷ drop (suc (length front)) s)
-        → c ∷ s ≡ line ++ newline ∷ drop (suc (length line)) (c ∷ s)
-    go true none test is known = let never : ◌≡◌ {A = ℕ} 0 1 = cc in absurd (omega arith)
-    go true (some behind) test is known =
-        let empty : line ≡ [] = cc in
-        rw empty (ap (λ (d : ℕ). d ∷ s) (eqb-true c newline test))
-    go false none test is known = let never : ◌≡◌ {A = ℕ} 0 1 = cc in absurd (omega arith)
-    go false (some []) test is known = let never : ◌≡◌ {A = ℕ} 0 1 = cc in absurd (omega arith)
-    go false (some (front ∷ behind)) test is known =
-        let first : line ≡ c ∷ front = cc in
-        rw first (ap (λ (l : List ℕ). c ∷ l) (known front behind refl))
+    go : (below : Bool) → nat_lt k n ≡ below → cond (nat_lt (1 + k) (suc n)) (Some (1 + k)) None ≡ option_map suc (cond (nat_lt k n) (Some k) None)
+    go true is = let less : k < n = ltb-true k n is in let next : 1 + k ≡ suc k = omega arith in simp (is, lt-ltb (1 + k) (suc n) (omega arith)) (ap (λ (m : ℕ). Some m) next)
+    go false is = let not_less : n ≤ k = ltb-false k n is in simp (is, le-ltb (1 + k) (suc n) (omega arith))
 
-lines_none : (s : List ℕ) → lines s ≡ some [] → s ≡ []
-unfolding lines
-lines_none [] is = refl
-lines_none (c ∷ s) is = go (eqb c newline) (lines s) is
+after_one : (x : ℕ) (s : List ℕ) (o : Option ℕ) → before x (parts_at s o) ≡ parts_at (x ∷ s) (option_map suc o)
+after_one x s None = refl
+after_one x s (Some n) = simp add-one
+
+pub cut_at : (c : ℕ) (s : List ℕ) → cut c s ≡ parts_at s (position (λ (y : ℕ). nat_eq y c) s)
+cut_at c [] = refl
+cut_at c (x ∷ s) = go (nat_eq x c) refl (cut_at c s)
   where
-    go : (ended : Bool) (o : Option (List (List ℕ)))
-        → cond ended (withLine [] o) (withChar c o) ≡ some []
-        → c ∷ s ≡ []
-    go true none is = let never : ◌≡◌ {A = ℕ} 0 1 = cc in absurd (omega arith)
-    go true (some others) is = let never : ◌≡◌ {A = ℕ} 0 1 = cc in absurd (omega arith)
-    go false none is = let never : ◌≡◌ {A = ℕ} 0 1 = cc in absurd (omega arith)
-    go false (some []) is = let never : ◌≡◌ {A = ℕ} 0 1 = cc in absurd (omega arith)
-    go false (some (line ∷ others)) is = let never : ◌≡◌ {A = ℕ} 0 1 = cc in absurd (omega arith)
+    go : (same : Bool) → nat_eq x c ≡ same → cut c s ≡ parts_at s (position (λ (y : ℕ). nat_eq y c) s)
+        → cut c (x ∷ s) ≡ parts_at (x ∷ s) (position (λ (y : ℕ). nat_eq y c) (x ∷ s))
+    go true is rest = simp (is, lt-ltb 0 (suc (length s)) (omega arith))
+    go false is rest = simp (is, later, rest, after_one)
 
--- ---- the frames
+-- The lines by the first one.
+abbrev pub lines_by : Option (List ℕ × List ℕ) → Option (List (List ℕ))
+lines_by None = None
+lines_by (Some parts) = option_map (λ (others : List (List ℕ)). parts.0 ∷ others) (lines parts.1)
 
-frame-known : (line bs : List ℕ) → frame_of line ≡ some bs → (decoded line ≡ some bs) × (length bs ≡ frameWidth)
-unfolding frame_of
-frame-known line bs is = go (decoded line) refl is
+with-before : (x : ℕ) (o : Option (List ℕ × List ℕ)) → with_char x (lines_by o) ≡ lines_by (before x o)
+with-before x None = refl
+with-before x (Some (line, rest)) = go (lines rest)
   where
-    go : (o : Option (List ℕ)) → decoded line ≡ o → exactly frameWidth o ≡ some bs → (decoded line ≡ some bs) × (length bs ≡ frameWidth)
-    go none digits is = let never : ◌≡◌ {A = ℕ} 0 1 = cc in absurd (omega arith)
-    go (some cs) digits is = by_size (eqb (length cs) frameWidth) refl is
-      where
-        by_size : (whole : Bool) → eqb (length cs) frameWidth ≡ whole → cond whole (some cs) none ≡ some bs
-            → (decoded line ≡ some bs) × (length bs ≡ frameWidth)
-        by_size true test is =
-            let same : cs ≡ bs = cc in
-            (digits ∙ is, sym (ap length same) ∙ eqb-true (length cs) frameWidth test)
-        by_size false test is = let never : ◌≡◌ {A = ℕ} 0 1 = cc in absurd (omega arith)
+    go : (o : Option (List (List ℕ))) → with_char x (option_map (λ (others : List (List ℕ)). line ∷ others) o) ≡ option_map (λ (others : List (List ℕ)). (x ∷ line) ∷ others) o
+    go None = refl
+    go (Some others) = refl
 
--- A first line that is a frame stands where the code looks for it.
-frame_found : (s line bs : List ℕ) (others : List (List ℕ)) → lines s ≡ some (line ∷ others) → frame_of line ≡ some bs
-    → (frameLine ≤ length s) × (frame_at s ≡ some bs)
-frame_found s line bs others cut is =
-    let known = frame-known line bs is in
-    let size : length line ≡ 2 * frameWidth = omega (arith, decoded-size line bs known.0, known.1) in
-    let rest = drop (suc (length line)) s in
-    let whole : s ≡ line ++ newline ∷ rest = first_ended s line others cut in
-    let ended : get_or s (2 * frameWidth) 0 ≡ newline = ap (λ (l : List ℕ). get_or l (2 * frameWidth) 0) whole ∙ get_or_at line newline rest 0 (2 * frameWidth) size in
-    let front : take (2 * frameWidth) s ≡ line = ap (take (2 * frameWidth)) whole ∙ take_at line (newline ∷ rest) (2 * frameWidth) size in
-    (omega (arith, ap length whole ∙ length-append line (newline ∷ rest)), frame_here s ended ∙ ap decoded front ∙ known.0)
-
--- The frames that the lines of a text stand for.
-abbrev pub framesRead : Option (List (List ℕ)) → Option (List ℕ)
-framesRead none = none
-framesRead (some ls) = framesOf ls
-
-frames-behind : (line bs : List ℕ) (o : Option (List (List ℕ))) → frame_of line ≡ some bs
-    → framesRead (withLine line o) ≡ joined (some bs) (framesRead o)
-frames-behind line bs none frame = refl
-frames-behind line bs (some others) frame = rw frame
-
--- Where the code finds a frame, it is that of the first line, and the other lines are those behind it.
-frame-first : (s bs : List ℕ) → frameLine ≤ length s → frame_at s ≡ some bs
-    → framesRead (lines s) ≡ joined (some bs) (framesRead (lines (drop frameLine s)))
-unfolding frame_of
-frame-first s bs fits is =
-    let line = take (2 * frameWidth) s in
-    let behind = drop frameLine s in
-    let ended = frame-ended s bs is in
-    let whole : s ≡ line ++ newline ∷ behind = split_at s (2 * frameWidth) 0 (omega arith) ∙ ap (λ (c : ℕ). line ++ c ∷ behind) ended.0 in
-    let size : length bs ≡ frameWidth = frame-size s bs (omega arith) is in
-    let frame : frame_of line ≡ some bs = ap (exactly frameWidth) ended.1 ∙ simp (eq-eqb _ _ size) in
-    ap (λ (l : List ℕ). framesRead (lines l)) whole
-    ∙ ap framesRead (digits-cut line bs behind ended.1)
-    ∙ frames-behind line bs (lines behind) frame
-
--- Where it finds none and something is left, some line is bad.
-frame-bad : (s : List ℕ) → (length s ≡ 0 → ⊥) → ((bs : List ℕ) → frameLine ≤ length s → frame_at s ≡ some bs → ⊥) → framesRead (lines s) ≡ none
-frame-bad s left bad = go (lines s) refl
+pub lines_cut : (s : List ℕ) → 0 < length s → lines s ≡ lines_by (cut newline s)
+lines_cut [] some = absurd (omega arith)
+lines_cut (x ∷ s) some = go (nat_eq x newline) refl (rest s (lines_cut s))
   where
-    go : (o : Option (List (List ℕ))) → lines s ≡ o → framesRead o ≡ none
-    go none cut = refl
-    go (some []) cut = absurd (left (ap length (lines_none s cut)))
-    go (some (line ∷ others)) cut = by-frame (frame_of line) refl
-      where
-        by-frame : (first : Option (List ℕ)) → frame_of line ≡ first → joined first (framesOf others) ≡ none
-        by-frame none frame = refl
-        by-frame (some bs) frame = let found = frame_found s line bs others cut frame in absurd (bad bs found.0 found.1)
+    rest : (t : List ℕ) → (0 < length t → lines t ≡ lines_by (cut newline t)) → with_char x (lines t) ≡ with_char x (lines_by (cut newline t))
+    rest [] cut_off = refl
+    rest (y ∷ t) cut_off = ap (with_char x) (cut_off (omega arith))
 
-frames-same : (n : ℕ) (s : List ℕ) → n * frameLine ≤ length s → length s < suc n * frameLine → framesRead (lines s) ≡ frameLines n s
-unfolding lines
-frames-same zero [] fits short = refl
-frames-same zero (c ∷ s) fits short =
-    let left : length (c ∷ s) ≡ 0 → ⊥ = λ empty. omega arith in
-    simp (ne_eqb (length (c ∷ s)) 0 left) (frame-bad (c ∷ s) left (λ bs long frame. omega arith))
-frames-same (suc n) s fits short =
-    go (frame_at s) refl (frames-same n (drop frameLine s) (simp length-drop (omega arith)) (simp length-drop (omega arith)))
+    go : (same : Bool) → nat_eq x newline ≡ same → with_char x (lines s) ≡ with_char x (lines_by (cut newline s)) → lines (x ∷ s) ≡ lines_by (cut newline (x ∷ s))
+    go true is behind = simp is
+    go false is behind = simp is (behind ∙ with-before x (cut newline s))
+
+-- The frames of a text by its first line.
+abbrev pub frames_by : Option (List ℕ × List ℕ) → Option (List ℕ)
+frames_by None = None
+frames_by (Some parts) = joined (frame_of parts.0) (frames_in parts.1)
+
+none_joined : (frame : Option (List ℕ)) → joined frame None ≡ None
+none_joined None = refl
+none_joined (Some frame) = refl
+
+behind : (line : List ℕ) (o : Option (List (List ℕ)))
+    → option_and_then frames_of (option_map (λ (others : List (List ℕ)). line ∷ others) o) ≡ joined (frame_of line) (option_and_then frames_of o)
+behind line None = sym (none_joined (frame_of line))
+behind line (Some others) = refl
+
+pub frames_cut : (s : List ℕ) → 0 < length s → frames_in s ≡ frames_by (cut newline s)
+frames_cut s some = ap (option_and_then frames_of) (lines_cut s some) ∙ go (cut newline s)
   where
-    go : (first : Option (List ℕ)) → frame_at s ≡ first → framesRead (lines (drop frameLine s)) ≡ frameLines n (drop frameLine s)
-        → framesRead (lines s) ≡ joined first (frameLines n (drop frameLine s))
-    go none frame rest = frame-bad s (λ empty. omega arith) (λ bs long found. let never : ◌≡◌ {A = ℕ} 0 1 = cc in omega arith)
-    go (some bs) frame rest = frame-first s bs (omega arith) frame ∙ ap (joined (some bs)) rest
+    go : (o : Option (List ℕ × List ℕ)) → option_and_then frames_of (lines_by o) ≡ frames_by o
+    go None = refl
+    go (Some (line, rest)) = behind line (lines rest)
 
--- The frames that the code finds are those of the lines.
-pub frames-lines : (s : List ℕ) → framesRead (lines s) ≡ framesIn s
-frames-lines s = frames-same (lineCount s) s (omega arith) (omega arith)
-
--- ---- the mark
-
--- A mark is the one byte that its line stands for.
-mark-digits : (line : List ℕ) → mark_of line ≤ 1 → decoded line ≡ some (mark_of line ∷ [])
-unfolding mark_of decoded hexValue
-mark-digits [] marked = absurd (omega arith)
-mark-digits (a ∷ []) marked = absurd (omega arith)
-mark-digits (a ∷ b ∷ c ∷ line) marked = absurd (omega arith)
-mark-digits (a ∷ b ∷ []) marked = go (eqb a 0x30) (eqb b 0x30) (eqb b 0x31) refl refl refl marked
+-- A frame's line has two digits a byte.
+pub frame-width : (line frame : List ℕ) → frame_of line ≡ Some frame → length line ≡ 2 * frame_width
+frame-width line frame is = go (list_all is_digit line) (decode_sized line frame_width) refl is
   where
-    go : (zero-first zero-second one-second : Bool) → eqb a 0x30 ≡ zero-first → eqb b 0x30 ≡ zero-second → eqb b 0x31 ≡ one-second
-        → cond zero-first (cond zero-second 0 (cond one-second 1 2)) 2 ≤ 1
-        → decoded (a ∷ b ∷ []) ≡ some (cond zero-first (cond zero-second 0 (cond one-second 1 2)) 2 ∷ [])
-    go true true o first second third marked = rw (eqb-true a 0x30 first, eqb-true b 0x30 second)
-    go true false true first second third marked = rw (eqb-true a 0x30 first, eqb-true b 0x31 third)
-    go true false false first second third marked = absurd (omega arith)
-    go false z o first second third marked = absurd (omega arith)
+    go : (digits : Bool) (r : Result (List ℕ) FromHexError) → decode_sized line frame_width ≡ r → (if digits then result_ok r else None) ≡ Some frame → length line ≡ 2 * frame_width
+    go true (Ok bytes) decodes is = decode_sized-ok line frame_width bytes decodes
+    go true (Err e) decodes is = let never : ◌≡◌ {A = ℕ} 0 1 = cc in absurd (omega arith)
+    go false r decodes is = let never : ◌≡◌ {A = ℕ} 0 1 = cc in absurd (omega arith)
 
--- A mark that the code finds is the first line.
-pub mark-first : (s : List ℕ) → markAt s ≤ 1
-    → (mark_of (take 2 s) ≡ markAt s) × (lines s ≡ withLine (take 2 s) (lines (drop markLine s)))
-unfolding markAt mark_of
-mark-first [] marked = absurd (omega arith)
-mark-first (a ∷ []) marked = absurd (omega arith)
-mark-first (a ∷ b ∷ []) marked = absurd (omega arith)
-mark-first (a ∷ b ∷ c ∷ s) marked = go (eqb c newline) refl marked
+-- ---- the lines that are left
+
+joined-joined : (front frame : List ℕ) (o : Option (List ℕ)) → joined (Some (front ++ frame)) o ≡ joined (Some front) (joined (Some frame) o)
+joined-joined front frame None = refl
+joined-joined front frame (Some others) = ap (λ (l : List ℕ). Some l) (append_assoc front frame others)
+
+module _ (front text all : List ℕ) (so_far : joined (Some front) (frames_in text) ≡ frames_in all) (more : 0 < length text) where
+  here : (o : Option (List ℕ × List ℕ)) → cut newline text ≡ o → joined (Some front) (frames_by o) ≡ frames_in all
+  here o is = ap (joined (Some front)) (sym (frames_cut text more ∙ ap frames_by is)) ∙ so_far
+
+  pub not_ended : cut newline text ≡ None → frames_in all ≡ None
+  not_ended is = sym (here None is)
+
+  module _ (line others : List ℕ) (first : cut newline text ≡ Some (line, others)) where
+    pub no_frame : frame_of line ≡ None → frames_in all ≡ None
+    no_frame is = sym (here _ first) ∙ ap (λ (f : Option (List ℕ)). joined (Some front) (joined f (frames_in others))) is
+
+    pub one_more : (frame : List ℕ) → frame_of line ≡ Some frame → joined (Some (front ++ frame)) (frames_in others) ≡ frames_in all
+    one_more frame is =
+        joined-joined front frame (frames_in others)
+        ∙ ap (λ (f : Option (List ℕ)). joined (Some front) (joined f (frames_in others))) (sym is)
+        ∙ here _ first
+
+-- A frame that is written behind n of them.
+pub frame_written : (l frame : List ℕ) (n : ℕ) → length frame ≡ frame_width → (n + 1) * frame_width ≤ length l
+    → take ((n + 1) * frame_width) (put_mid (n * frame_width) ((n + 1) * frame_width - n * frame_width) l frame) ≡ take (n * frame_width) l ++ frame
+frame_written l frame n size fits =
+    take-put_mid (n * frame_width) _ l frame ((n + 1) * frame_width) (omega (arith, size)) (omega arith)
+
+-- ---- the mark and the frames
+
+abbrev pub marked : Option Bool → Option (List ℕ) → Option (Bool × List ℕ)
+marked mark frames = option_and_then (λ (clean : Bool). option_map (λ (frames : List ℕ). (clean, frames)) frames) mark
+
+no_store : (mark : Option Bool) → marked mark None ≡ None
+no_store None = refl
+no_store (Some clean) = refl
+
+abbrev pub store_by : Option (List ℕ × List ℕ) → Option (Bool × List ℕ)
+store_by None = None
+store_by (Some parts) = marked (mark_of parts.0) (frames_in parts.1)
+
+pub store_cut : (text : List ℕ) → store_in text ≡ store_by (cut newline text)
+store_cut [] = refl
+store_cut (c ∷ text) = ap (option_and_then store_of) (lines_cut (c ∷ text) (omega arith)) ∙ go (cut newline (c ∷ text))
   where
-    go : (ended : Bool) → eqb c newline ≡ ended → cond ended (mark_of (a ∷ b ∷ [])) 2 ≤ 1
-        → (mark_of (a ∷ b ∷ []) ≡ cond ended (mark_of (a ∷ b ∷ [])) 2)
-        × (lines (a ∷ b ∷ c ∷ s) ≡ withLine (a ∷ b ∷ []) (lines s))
-    go true test marked = (refl, rw (eqb-true c newline test) (digits-cut (a ∷ b ∷ []) _ s (mark-digits (a ∷ b ∷ []) marked)))
-    go false test marked = absurd (omega arith)
+    first : (line : List ℕ) (o : Option (List (List ℕ)))
+        → option_and_then store_of (option_map (λ (others : List (List ℕ)). line ∷ others) o) ≡ marked (mark_of line) (option_and_then frames_of o)
+    first line None = sym (no_store (mark_of line))
+    first line (Some others) = refl
 
--- A first line that is a mark stands where the code looks for it.
-pub mark-found : (s line : List ℕ) (others : List (List ℕ)) → lines s ≡ some (line ∷ others) → mark_of line ≤ 1 → markAt s ≡ mark_of line
-unfolding markAt mark_of
-mark-found s [] others cut marked = absurd (omega arith)
-mark-found s (a ∷ []) others cut marked = absurd (omega arith)
-mark-found s (a ∷ b ∷ []) others cut marked = ap markAt (first_ended s (a ∷ b ∷ []) others cut)
-mark-found s (a ∷ b ∷ c ∷ line) others cut marked = absurd (omega arith)
+    go : (o : Option (List ℕ × List ℕ)) → option_and_then store_of (lines_by o) ≡ store_by o
+    go None = refl
+    go (Some (line, rest)) = first line (lines rest)

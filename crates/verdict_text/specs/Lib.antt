@@ -1,4 +1,4 @@
 pub mod Read
-pub mod Stride
-pub mod Text
-pub mod Respond
+pub mod Write
+pub mod Answer
+pub mod Steps

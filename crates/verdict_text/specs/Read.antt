@@ -1,48 +1,73 @@
 -- The lines that program `verdicts` reads (docs/FORMAT.md, "The program verdicts"): lines of lower-case hexadecimal, each ended by a
 -- newline, the clean mark, 00 or 01, then one frame a line.
-use Rattle.std.specs.Prelude.{cond, List, [], ◌∷◌, ◌++◌, ℕ, eqb, length}
-use Rattle.std.proofs.Math.Option.{Option, some, none, map}
-use Rattle.cases.specs.Hex.{decoded}
-use Rattle.cases.specs.Line.{newline}
-use Rattle.judge_frames.specs.Frames.{frameWidth}
+use Rattle.std.specs.Prelude.{Bool, true, false, not, if◌then◌else◌, ◌==◌, ◌&&◌, ◌||◌, nat_le, List, [], ◌∷◌, ◌++◌, ℕ, ◌+◌, ◌*◌, Option, Some, None}
+use Rattle.std.specs.List.{list_all}
+use Rattle.std.specs.Option.{option_map, option_and_then}
+use Rattle.std.specs.Result.{result_ok}
+use Rattle.hex.specs.Hex.{decode_sized}
+use Rattle.judge.specs.Frames.{frame_width}
 
--- A line before other lines.
-abbrev pub withLine : List ℕ → Option (List (List ℕ)) → Option (List (List ℕ))
-withLine line rest = map (λ (others : List (List ℕ)). line ∷ others) rest
+abbrev pub newline : ℕ
+newline = 0x0a
 
--- A character before the others of the first line; `none` where no newline ends that line.
-abbrev pub withChar : ℕ → Option (List (List ℕ)) → Option (List (List ℕ))
-withChar c none = none
-withChar c (some []) = none
-withChar c (some (line ∷ others)) = some ((c ∷ line) ∷ others)
+-- One of 0 to 9 and a to f.
+abbrev pub is_digit : ℕ → Bool
+is_digit c = (nat_le 0x30 c && nat_le c 0x39) || (nat_le 0x61 c && nat_le c 0x66)
 
--- The lines of a text: a line is what stands up to a newline. `none` where no newline ends the last one.
-unfoldable pub lines : List ℕ → Option (List (List ℕ))
-lines [] = some []
-lines (c ∷ text) = cond (eqb c newline) (withLine [] (lines text)) (withChar c (lines text))
+-- A character before a line that is cut off.
+abbrev pub before : ℕ → Option (List ℕ × List ℕ) → Option (List ℕ × List ℕ)
+before x None = None
+before x (Some parts) = Some (x ∷ parts.0, parts.1)
 
--- The clean mark of a line: 0 for 00, 1 for 01, 2 for anything else.
-unfoldable pub mark_of : List ℕ → ℕ
-mark_of [] = 2
-mark_of (a ∷ []) = 2
-mark_of (a ∷ b ∷ []) = cond (eqb a 0x30) (cond (eqb b 0x30) 0 (cond (eqb b 0x31) 1 2)) 2
-mark_of (a ∷ b ∷ c ∷ line) = 2
+-- A text up to the first c, and behind it.
+abbrev pub cut : ℕ → List ℕ → Option (List ℕ × List ℕ)
+cut c [] = None
+cut c (x ∷ text) = if x == c then Some ([], text) else before x (cut c text)
 
--- So many bytes, and no other number of them.
-abbrev pub exactly : ℕ → Option (List ℕ) → Option (List ℕ)
-exactly n none = none
-exactly n (some bs) = cond (eqb (length bs) n) (some bs) none
+-- 00 or 01.
+abbrev pub mark_of : List ℕ → Option Bool
+mark_of (a ∷ b ∷ []) = if not (a == 0x30) then None else if b == 0x30 then Some false else if b == 0x31 then Some true else None
+mark_of _ = None
 
--- The frame that a line stands for.
-unfoldable pub frame_of : List ℕ → Option (List ℕ)
-frame_of line = exactly frameWidth (decoded line)
+-- The width of a frame's line, with its newline.
+abbrev pub line_width : ℕ
+line_width = 2 * frame_width + 1
+
+-- The frame of a line: two digits a byte.
+abbrev pub frame_of : List ℕ → Option (List ℕ)
+frame_of line = if list_all is_digit line then result_ok (decode_sized line frame_width) else None
 
 abbrev pub joined : Option (List ℕ) → Option (List ℕ) → Option (List ℕ)
-joined none rest = none
-joined (some bs) none = none
-joined (some bs) (some cs) = some (bs ++ cs)
+joined None others = None
+joined (Some frame) None = None
+joined (Some frame) (Some others) = Some (frame ++ others)
 
 -- The frames of lines, one after the other.
-abbrev pub framesOf : List (List ℕ) → Option (List ℕ)
-framesOf [] = some []
-framesOf (line ∷ others) = joined (frame_of line) (framesOf others)
+abbrev pub frames_of : List (List ℕ) → Option (List ℕ)
+frames_of [] = Some []
+frames_of (line ∷ others) = joined (frame_of line) (frames_of others)
+
+-- A character before the others of the first line; `None` where no newline ends that line.
+abbrev pub with_char : ℕ → Option (List (List ℕ)) → Option (List (List ℕ))
+with_char c None = None
+with_char c (Some []) = None
+with_char c (Some (line ∷ others)) = Some ((c ∷ line) ∷ others)
+
+-- The lines of a text: a line is what stands up to a newline. `None` where no newline ends the last one.
+abbrev pub lines : List ℕ → Option (List (List ℕ))
+lines [] = Some []
+lines (c ∷ text) =
+    if c == newline then option_map (λ (others : List (List ℕ)). [] ∷ others) (lines text) else with_char c (lines text)
+
+-- The clean mark of the first line, and the frames of the others.
+abbrev pub store_of : List (List ℕ) → Option (Bool × List ℕ)
+store_of [] = None
+store_of (mark ∷ others) =
+    option_and_then (λ (clean : Bool). option_map (λ (frames : List ℕ). (clean, frames)) (frames_of others)) (mark_of mark)
+
+-- The frames of a text of such lines, and the mark and the frames of a whole text.
+abbrev pub frames_in : List ℕ → Option (List ℕ)
+frames_in text = option_and_then frames_of (lines text)
+
+abbrev pub store_in : List ℕ → Option (Bool × List ℕ)
+store_in text = option_and_then store_of (lines text)

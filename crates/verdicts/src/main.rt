@@ -4,7 +4,7 @@
 use std::process::ExitCode;
 
 fn main(rt: HostRuntime) -> ExitCode {
-    match verdict_io::answer(&mut rt.stdin(), &mut rt.stdout()) {
+    match verdict_text::answer::answer(&mut rt.stdin(), &mut rt.stdout()) {
         Ok(()) => ExitCode::SUCCESS,
         Err(error) => {
             // Where standard error fails too, the status tells it.

@@ -1,0 +1,143 @@
+// A list replayed: each line's case is asked, up to the first whose answer is not the one expected.
+ghost use Rattle.std.specs.Prelude.{◌≡◌};
+ghost use Rattle.cases.specs.Compare.{compare};
+
+use crate::line::{field_bytes, split};
+use arrayvec::ArrayVec;
+use std::alloc::{AllocError, Global};
+use std::fmt;
+use std::io::{self, Read, Write};
+use verdict_text::read::cut;
+
+/// The longest list that is read.
+const LONGEST: usize = 131_072;
+
+/// An answer as it is packed, or a buffer to be written to.
+pub type Bytes = ArrayVec<u8, 4096>;
+
+/// Why a list is not replayed to its end.
+#[derive(Clone, Copy)]
+pub enum Fault {
+    /// The answer is not the one expected.
+    Differs,
+    /// The line is no case, or the input none of its name.
+    Unreadable,
+    Memory,
+}
+
+impl From<AllocError> for Fault {
+    fn from(_error: AllocError) -> Self {
+        Fault::Memory
+    }
+}
+
+impl fmt::Display for Fault {
+    fn fmt<W: fmt::Write>(&self, f: &mut fmt::Formatter<W>) -> fmt::Result {
+        match self {
+            Fault::Differs => write!(f, "differs"),
+            Fault::Unreadable => write!(f, "cannot be read"),
+            Fault::Memory => write!(f, "does not fit into memory"),
+        }
+    }
+}
+
+/// A table of functions by the names of their cases.
+pub trait Table {
+    /// The names, in the order in which the cases are counted.
+    const NAMES: &'static [&'static str];
+
+    /// Packs the answer of the function at this place in the names. There is none where the input is shorter than its arguments.
+    fn answer(place: usize, input: &[u8], answer: &mut Bytes) -> Option<()>;
+
+    /// Replays the list that `input` has, and says so.
+    final fn run<R: Read + Drop, W: Write>(
+        alloc: Global,
+        input: R,
+        output: &mut W,
+    ) -> io::Result<()> {
+        let mut list = Vec::new(alloc);
+        // A byte more tells a list that is too long.
+        input.take(LONGEST as u64 + 1).read_to_end(&mut list)?;
+        if LONGEST < list.len() {
+            return writeln!(output, "the list has more than {LONGEST} bytes");
+        }
+        Self::replay(alloc, &list, output)
+    }
+
+    final fn replay<W: Write>(alloc: Global, list: &[u8], output: &mut W) -> io::Result<()> {
+        let mut counts = vec![in alloc; 0u64; Self::NAMES.len()]?;
+        let mut equal: u64 = 0;
+        let mut lines = list;
+        while !lines.is_empty() {
+            let Some((line, others)) = cut(lines, b'\n') else {
+                return stopped(output, equal + 1, Fault::Unreadable, lines);
+            };
+            match Self::case(alloc, line) {
+                Ok(place) => count(&mut counts, place),
+                Err(fault) => return stopped(output, equal + 1, fault, line),
+            }
+            equal += 1;
+            lines = others;
+        }
+        summary(output, Self::NAMES, &counts, equal)
+    }
+
+    /// The place of the case's name, where its answer is the one expected.
+    final fn case(alloc: Global, line: &[u8]) -> Result<usize, Fault> {
+        let Some((name, input, expected)) = split(line) else {
+            return Err(Fault::Unreadable);
+        };
+        let Some(place) = Self::NAMES
+            .iter()
+            .position(|known| known.as_bytes() == name)
+        else {
+            return Err(Fault::Unreadable);
+        };
+        let Some(input) = field_bytes(alloc, input)? else {
+            return Err(Fault::Unreadable);
+        };
+        let Some(expected) = field_bytes(alloc, expected)? else {
+            return Err(Fault::Unreadable);
+        };
+        let mut answer = Bytes::new();
+        let Some(()) = Self::answer(place, &input, &mut answer) else {
+            return Err(Fault::Unreadable);
+        };
+        compare(&answer, &expected)?;
+        Ok(place)
+    }
+}
+
+// Whether an answer is the one expected.
+fn compare(answer: &[u8], expected: &[u8]) -> Result<(), Fault>
+    ensures { result ≡ compare answer.now expected.now }
+{
+    if answer == expected {
+        Ok(())
+    } else {
+        Err(Fault::Differs)
+    }
+}
+
+// No list has so many lines that a count wraps.
+fn count(counts: &mut [u64], place: usize) {
+    if let Some(count) = counts.get_mut(place) {
+        *count = count.wrapping_add(1);
+    }
+}
+
+fn stopped<W: Write>(output: &mut W, number: u64, fault: Fault, line: &[u8]) -> io::Result<()> {
+    write!(output, "line {number} {fault}: ")?;
+    output.write_all(line)?;
+    output.write_all(b"\n")
+}
+
+fn summary<W: Write>(output: &mut W, names: &[&str], counts: &[u64], equal: u64) -> io::Result<()> {
+    for (name, count) in names.iter().zip(counts) {
+        writeln!(output, "{name} {count} equal")?;
+    }
+    writeln!(output, "{equal} cases, all equal")
+}
+
+#[cfg(test)]
+mod tests;

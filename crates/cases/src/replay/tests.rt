@@ -1,0 +1,72 @@
+// What is said of a list: all equal, a case that differs, and lines that are none.
+use super::*;
+
+struct Complements;
+
+impl Table for Complements {
+    const NAMES: &'static [&'static str] = &["not", "two"];
+
+    fn answer(place: usize, input: &[u8], answer: &mut Bytes) -> Option<()> {
+        let (first, rest) = input.split_first()?;
+        if place == 0 {
+            return answer.try_push(!*first).ok();
+        }
+        let (second, _) = rest.split_first()?;
+        answer.try_push(!*first).ok()?;
+        answer.try_push(!*second).ok()
+    }
+}
+
+fn said(rt: &HostRuntime, list: &[u8]) -> io::Result<Vec<u8>> {
+    let mut output = Vec::new(rt.alloc());
+    Complements::run(rt.alloc(), list, &mut output)?;
+    Ok(output)
+}
+
+#[test]
+fn counts_equal_cases(rt: HostRuntime) -> io::Result<()> {
+    let output = said(&rt, b"two 00ff ff00\nnot 0f f0\ntwo 0102 fefd\n")?;
+    assert_eq!(rt;
+        output.as_slice(),
+        b"not 1 equal\ntwo 2 equal\n3 cases, all equal\n".as_slice()
+    );
+    Ok(())
+}
+
+#[test]
+fn tells_a_case_that_differs(rt: HostRuntime) -> io::Result<()> {
+    let output = said(&rt, b"not 0f f0\ntwo 0102 fefc\nnot 00 00\n")?;
+    assert_eq!(rt;
+        output.as_slice(),
+        b"line 2 differs: two 0102 fefc\n".as_slice()
+    );
+    let output = said(&rt, b"not 0f -\n")?;
+    assert_eq!(rt; output.as_slice(), b"line 1 differs: not 0f -\n".as_slice());
+    Ok(())
+}
+
+#[test]
+fn tells_a_line_that_is_no_case(rt: HostRuntime) -> io::Result<()> {
+    for line in [
+        b"not 0f".as_slice(),
+        b"nor 0f f0",
+        b"not 0F f0",
+        b"not 0f f",
+        b"two 01 fe",
+        b"not - ff",
+        b"not  ff",
+        b"",
+    ] {
+        let mut list = Vec::new(rt.alloc());
+        list.extend_from_slice(line)?;
+        list.push(b'\n')?;
+        let output = said(&rt, &list)?;
+        assert!(rt; output.starts_with(b"line 1 cannot be read: "));
+    }
+    let output = said(&rt, b"not 0f f0\nnot 0f f0")?;
+    assert_eq!(rt;
+        output.as_slice(),
+        b"line 2 cannot be read: not 0f f0\n".as_slice()
+    );
+    Ok(())
+}

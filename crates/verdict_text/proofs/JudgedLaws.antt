@@ -1,0 +1,65 @@
+-- A text as it is judged: refused by its length or by its lines, or by the judge of its frames.
+use Rattle.std.proofs.Common.{◌≡◌, refl, sym, ap, ap₂, ◌∙◌, Bool, true, false, ◌==◌, ℕ, ◌*◌, ◌≤◌, arith, ltb-false, List, length, take, length-take-le, Option, Some, None, Ok, Err}
+use Rattle.std.specs.Int.{from_bool}
+use Rattle.judge.specs.declared.verdict.Judgement.{Judgement}
+use Rattle.judge.specs.declared.verdict.JudgeError.{JudgeError}
+use Rattle.judge.specs.Judge.{verdicts, judgement, unless, left}
+use Rattle.judge.specs.Frames.{frame_width, verdict_width, pair_count, row, row_bytes, frames_error, judge_frames, frames_left}
+use Rattle.verdict_text.specs.declared.answer.Refusal.{Refusal}
+use Rattle.verdict_text.specs.Read.{store_in}
+use Rattle.verdict_text.specs.Answer.{unless_refused, judged_frames, judged_store, is_long, judged}
+
+module _ (text : List ℕ) (more : Bool) where
+  pub long_text : is_long (length text) more ≡ true → judged text more ≡ Err Refusal.LongText
+  unfolding judged
+  long_text long = rw long
+
+  pub fitting_text : is_long (length text) more ≡ false → judged text more ≡ judged_store (store_in text)
+  unfolding judged
+  fitting_text fits = rw fits
+
+pub fitting : (held : ℕ) (more : Bool) → is_long held more ≡ false → held ≤ 65536
+fitting held true is = let never : ◌≡◌ {A = ℕ} 0 1 = cc in absurd (omega arith)
+fitting held false is = ltb-false 65536 held is
+
+-- The verdicts' room, with frames for so many pairs.
+pub room_for : (pairs : ℕ) (frames verdicts : List ℕ) → pairs * frame_width ≤ length frames → pairs * verdict_width ≤ length verdicts
+    → length (take (pairs * verdict_width) verdicts) ≡ pair_count (take (pairs * frame_width) frames) * verdict_width
+room_for pairs frames verdicts fits room =
+    omega (arith, length-take-le (pairs * frame_width) frames fits, length-take-le (pairs * verdict_width) verdicts room)
+
+mark-back : (clean : Bool) → (from_bool clean == 1) ≡ clean
+mark-back true = refl
+mark-back false = refl
+
+module _ (clean : Bool) (frames out : List ℕ) (room : length out ≡ pair_count frames * verdict_width) where
+  abbrev error : Option JudgeError
+  error = frames_error frames (from_bool clean) (length out)
+
+  abbrev bytes : List ℕ
+  bytes = row_bytes (verdicts (row frames) (from_bool clean == 1))
+
+  abbrev all : Judgement
+  all = judgement (row frames) (from_bool clean == 1)
+
+  by_error : judged_frames clean frames ≡ unless_refused error bytes all
+  by_error = rw (mark-back clean, room) refl
+
+  pub judged-ok : (j : Judgement) (new : List ℕ) → Ok j ≡ judge_frames frames (from_bool clean) (length out) → new ≡ frames_left frames (from_bool clean) out
+      → judged_frames clean frames ≡ Ok (new, j)
+  unfolding judge_frames frames_left
+  judged-ok j new value after = by_error ∙ go error value after
+    where
+      go : (e : Option JudgeError) → Ok j ≡ unless e all → new ≡ left e bytes out → unless_refused e bytes all ≡ Ok (new, j)
+      go None value after =
+          let same : all ≡ j = cc in
+          ap₂ (λ (b : List ℕ) (k : Judgement). Ok (b, k)) (sym after) same
+      go (Some e) value after = cc
+
+  pub judged-error : (e : JudgeError) → Err e ≡ judge_frames frames (from_bool clean) (length out) → judged_frames clean frames ≡ Err (Refusal.Judge e)
+  unfolding judge_frames
+  judged-error e value = by_error ∙ go error value
+    where
+      go : (o : Option JudgeError) → Err e ≡ unless o all → unless_refused o bytes all ≡ Err (Refusal.Judge e)
+      go None value = cc
+      go (Some f) value = let same : f ≡ e = cc in ap (λ (e : JudgeError). Err (Refusal.Judge e)) same

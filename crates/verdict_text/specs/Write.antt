@@ -1,0 +1,35 @@
+-- The lines that program `verdicts` prints (docs/FORMAT.md, "The program verdicts"): a line a pair, then one line for the store; or R
+-- and a number. Bytes are two lower-case hexadecimal digits each, and a newline ends every line.
+use Rattle.std.specs.Prelude.{List, [], ◌∷◌, ◌++◌, ℕ, ◌+◌, ◌*◌, ◌/◌, ◌%◌, length, take}
+use Rattle.std.specs.Int.{w64, to_le_bytes, from_bool}
+use Rattle.std.specs.List.{flat_map}
+use Rattle.std.specs.Simd.{first_chunks}
+use Rattle.hex.specs.Hex.{encode_lower}
+use Rattle.judge.specs.declared.verdict.Judgement.{Judgement}
+use Rattle.judge.specs.Frames.{verdict_width}
+use Rattle.judge.specs.Values.{heal_slot, heal_pair}
+use Rattle.verdict_text.specs.Read.{newline}
+
+-- The bytes' digits and a newline.
+abbrev pub line : List ℕ → List ℕ
+line bytes = encode_lower bytes ++ newline ∷ []
+
+-- The widths of a verdict's line and of the last one.
+abbrev pub verdict_line : ℕ
+verdict_line = 2 * verdict_width + 1
+
+abbrev pub last_line : ℕ
+last_line = 17
+
+-- R and two decimal digits.
+abbrev pub refusal_line : ℕ → List ℕ
+refusal_line number = 0x52 ∷ (0x30 + number / 10) ∷ (0x30 + number % 10) ∷ newline ∷ []
+
+-- Heal slot, heal pair in four bytes, writable, clean, refused.
+abbrev pub judgement_bytes : Judgement → List ℕ
+judgement_bytes j =
+    heal_slot j.heal ∷ (take 4 (to_le_bytes w64 (heal_pair j.heal)) ++ from_bool j.writable ∷ from_bool j.clean ∷ from_bool j.refused ∷ [])
+
+-- A line a verdict, then the last one.
+abbrev pub judgement_text : List ℕ → Judgement → List ℕ
+judgement_text verdicts j = flat_map line (first_chunks verdict_width (length verdicts / verdict_width) verdicts) ++ line (judgement_bytes j)

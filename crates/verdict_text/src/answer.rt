@@ -1,0 +1,218 @@
+// The answer to a text, and reading the one and writing the other.
+ghost use Rattle.std.specs.Prelude.{◌≡◌, ◌≢◌, ◌+◌, ◌*◌, ◌≤◌, length, take, IfOk, IfErr, MatchResult};
+ghost use Rattle.std.specs.Io.{ReadsAtMost, WritesAtMost};
+ghost use Rattle.std.specs.Io.KnownBytes.{Appends, ReadConsumes, WriteAppends};
+ghost use Rattle.std.specs.IoError.{error_kind};
+ghost use Rattle.judge.specs.Frames.{verdict_width};
+ghost use Rattle.verdict_text.specs.Read.{line_width};
+ghost use Rattle.verdict_text.specs.Write.{verdict_line, last_line};
+ghost use Rattle.verdict_text.specs.Answer.{refusal_number, is_long, judged, response_text, Left, Written, LosesFewer, AppendsFront, cause};
+ghost use Rattle.verdict_text.specs.Steps.{Fills, Reads};
+
+use crate::read::{FRAME_LINE, read_store};
+use crate::write::{LAST_LINE, VERDICT_LINE, write_judgement, write_refusal};
+use judge::frames::{FRAME, VERDICT, judge};
+use judge::verdict::{JudgeError, Judgement};
+use std::fmt;
+use std::io::{self, ErrorKind, Read, Write};
+
+/// The longest text that is judged.
+const LONGEST: usize = 65536;
+
+/// The most pairs in one, and the room that their frames, their verdicts and the answer take.
+const PAIRS: usize = LONGEST / FRAME_LINE;
+
+const FRAMES: usize = PAIRS * FRAME;
+
+const VERDICTS: usize = PAIRS * VERDICT;
+
+const ROOM: usize = PAIRS * VERDICT_LINE + LAST_LINE;
+
+/// Why a text is not judged.
+#[derive(Clone, Copy)]
+pub enum Refusal {
+    /// It has more bytes than are judged.
+    LongText,
+    /// A line of another length or with another character, one that is not ended, no mark or a wrong one.
+    BadLine,
+    Judge(JudgeError),
+}
+
+impl Refusal {
+    /// The number that is printed.
+    pub fn number(self) -> u8
+        ensures { result ≡ refusal_number self }
+    {
+        match self {
+            Refusal::LongText => 11,
+            Refusal::BadLine => 10,
+            Refusal::Judge(error) => error.number(),
+        }
+    }
+}
+
+/// Why there is no answer, or not the whole of it.
+#[derive(Clone, Copy, Debug)]
+pub enum AnswerError {
+    /// A read failed. Nothing was written.
+    Read(io::Error),
+    /// A write failed. The writer has taken a front of the answer.
+    Write(io::Error),
+}
+
+impl fmt::Display for AnswerError {
+    fn fmt<W: fmt::Write>(&self, f: &mut fmt::Formatter<W>) -> fmt::Result {
+        match self {
+            AnswerError::Read(error) => write!(f, "the input could not be read: {error}"),
+            AnswerError::Write(error) => write!(f, "the answer could not be written: {error}"),
+        }
+    }
+}
+
+/// Writes the answer to the text that `input` has left. Of a longer text the byte past the longest is read, and none behind it. A call that
+/// a signal interrupts is made again, and a write that takes nothing is a failure.
+pub fn answer<R: Read, W: Write>(input: &mut R, output: &mut W) -> Result<(), AnswerError>
+    ensures left { Left (R.remaining input.old) (R.remaining input.new) result }
+    ensures written { Written (R.remaining input.old) (W.contents output.old) (W.contents output.new) result }
+    ensures retried { IfErr result (λ e. error_kind (cause e) ≢ ErrorKind.Interrupted) }
+{
+    let mut text = [0u8; LONGEST];
+    let (held, more) = match read_text(input, &mut text) {
+        Ok(read) => read,
+        Err(error) => return Err(AnswerError::Read(error)),
+    };
+    let mut response = [0u8; ROOM];
+    let length = respond(&text[..held], more, &mut response);
+    match put(output, &response[..length]) {
+        Ok(()) => Ok(()),
+        Err(error) => Err(AnswerError::Write(error)),
+    }
+}
+
+// Fills `text`, and tells how many bytes it holds and whether more follow.
+fn read_text<R: Read>(input: &mut R, text: &mut [u8]) -> io::Result<(usize, bool)>
+    ensures bound { IfOk result (λ read. read.0 ≤ length text.new) }
+    ensures bytes { MatchResult result (λ read. Reads (R.remaining input.old) (R.remaining input.new) read.0 read.1 text.new)
+        (λ _. LosesFewer (length text.old + 1) (R.remaining input.old) (R.remaining input.new)) }
+    ensures retried { IfErr result (λ e. error_kind e ≢ ErrorKind.Interrupted) }
+{
+    let held = fill(input, text)?;
+    if held < text.len() {
+        return Ok((held, false));
+    }
+    let mut next = [0u8; 1];
+    let more = fill(input, &mut next)? == 1;
+    Ok((held, more))
+}
+
+// Reads until `buffer` is full or the input ends, and tells how many bytes stand at its start.
+fn fill<R: Read>(input: &mut R, buffer: &mut [u8]) -> io::Result<usize>
+    ensures bound { ReadsAtMost result buffer.new }
+    ensures bytes { MatchResult result (λ n. Fills (R.remaining input.old) (R.remaining input.new) n buffer.new)
+        (λ _. LosesFewer (length buffer.old) (R.remaining input.old) (R.remaining input.new)) }
+    ensures retried { IfErr result (λ e. error_kind e ≢ ErrorKind.Interrupted) }
+{
+    let mut held = 0;
+    while held < buffer.len() {
+        match read_some(input, &mut buffer[held..])? {
+            0 => return Ok(held),
+            n => held += n,
+        }
+    }
+    Ok(held)
+}
+
+// One read, made again where a signal interrupts it.
+fn read_some<R: Read>(input: &mut R, buffer: &mut [u8]) -> io::Result<usize>
+    ensures bound { ReadsAtMost result buffer.new }
+    ensures bytes { ReadConsumes (R.remaining input.old) (R.remaining input.new) result buffer.new }
+    ensures retried { IfErr result (λ e. error_kind e ≢ ErrorKind.Interrupted) }
+{
+    for _ in 0..u64::MAX {
+        match input.read(buffer) {
+            Err(error) if error.kind() == ErrorKind::Interrupted => {}
+            result => return result,
+        }
+    }
+    Err(ErrorKind::TimedOut.into())
+}
+
+// Writes all of `bytes`.
+fn put<W: Write>(output: &mut W, bytes: &[u8]) -> io::Result<()>
+    ensures bytes { MatchResult result (λ _. Appends (W.contents output.old) (W.contents output.new) bytes.now)
+        (λ _. AppendsFront (W.contents output.old) (W.contents output.new) bytes.now) }
+    ensures retried { IfErr result (λ e. error_kind e ≢ ErrorKind.Interrupted) }
+{
+    let mut done = 0;
+    while done < bytes.len() {
+        match write_some(output, &bytes[done..])? {
+            0 => return Err(ErrorKind::WriteZero.into()),
+            n => done += n,
+        }
+    }
+    Ok(())
+}
+
+// One write, made again where a signal interrupts it.
+fn write_some<W: Write>(output: &mut W, bytes: &[u8]) -> io::Result<usize>
+    ensures bound { WritesAtMost result bytes.now }
+    ensures bytes { WriteAppends (W.contents output.old) (W.contents output.new) result bytes.now }
+    ensures retried { IfErr result (λ e. error_kind e ≢ ErrorKind.Interrupted) }
+{
+    for _ in 0..u64::MAX {
+        match output.write(bytes) {
+            Err(error) if error.kind() == ErrorKind::Interrupted => {}
+            result => return result,
+        }
+    }
+    Err(ErrorKind::TimedOut.into())
+}
+
+// The answer to a text, of which more bytes may follow, at the start of `response`.
+fn respond(text: &[u8], more: bool, response: &mut [u8; ROOM]) -> usize
+    ensures bound { result ≤ length response.new }
+    ensures bytes { take result response.new ≡ response_text text.now more }
+{
+    let mut verdicts = [0u8; VERDICTS];
+    match judged(text, more, &mut verdicts) {
+        Ok((pairs, judgement)) => write_judgement(
+            response,
+            &verdicts[..pairs * VERDICT],
+            judgement,
+        ),
+        Err(refusal) => write_refusal(response, refusal.number()),
+    }
+}
+
+// Judges a text, of which more bytes may follow, and tells how many verdicts stand at the start of `verdicts`.
+fn judged(
+    text: &[u8],
+    more: bool,
+    verdicts: &mut [u8; VERDICTS],
+) -> Result<(usize, Judgement), Refusal>
+    ensures { MatchResult result (λ done. (judged text.now more ≡ Ok (take (done.0 * verdict_width) verdicts.new, done.1)) × (done.0 ≤ 624))
+        (λ refusal. judged text.now more ≡ Err refusal) }
+{
+    if is_long(text.len(), more) {
+        return Err(Refusal::LongText);
+    }
+    let mut frames = [0u8; FRAMES];
+    let Some((clean, pairs)) = read_store(text, &mut frames) else {
+        return Err(Refusal::BadLine);
+    };
+    let frames = &frames[..pairs * FRAME];
+    match judge(frames, u8::from(clean), &mut verdicts[..pairs * VERDICT]) {
+        Ok(judgement) => Ok((pairs, judgement)),
+        Err(error) => Err(Refusal::Judge(error)),
+    }
+}
+
+// Whether a text has more than `LONGEST` bytes, by how many of them are held and whether more follow.
+fn is_long(held: usize, more: bool) -> bool
+    ensures { result ≡ is_long held more }
+{
+    more || LONGEST < held
+}
+
+#[cfg(test)]
+mod tests;

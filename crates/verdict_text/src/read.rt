@@ -1,0 +1,85 @@
+// The lines that are read: the clean mark, `00` or `01`, then a frame a line, two lower-case hexadecimal digits a byte. A newline ends each.
+ghost use Rattle.std.specs.Prelude.{◌≡◌, ◌+◌, ◌*◌, ◌/◌, ◌≤◌, length, take, IfSome, MatchOption, ◌==◌, ◌<◌};
+ghost use Rattle.std.specs.List.{list_all, position};
+ghost use Rattle.verdict_text.specs.Read.{is_digit, cut, mark_of, frame_of, line_width, frames_in, store_in};
+ghost use Rattle.judge.specs.Frames.{frame_width};
+
+use hex::FromHex;
+use judge::frames::FRAME;
+
+/// The width of a frame's line.
+pub(crate) const FRAME_LINE: usize = 2 * FRAME + 1;
+
+/// Whether each character is one of `0` to `9` and `a` to `f`.
+pub fn is_lower_hex(text: &[u8]) -> bool
+    ensures { result ≡ list_all is_digit text.now }
+{
+    text.iter().all(|c| matches!(*c, b'0'..=b'9' | b'a'..=b'f'))
+}
+
+// The place of the first `c`.
+fn find(text: &[u8], c: u8) -> Option<usize>
+    ensures value { result ≡ position (λ x. x == c) text.now }
+    ensures bound { IfSome result (λ end. end < length text.now) }
+{
+    text.iter().position(|x| *x == c)
+}
+
+/// The text up to the first `c`, and behind it.
+#[tactic(auto, using(crate::proofs::ReadLaws::cut_at))]
+pub fn cut(text: &[u8], c: u8) -> Option<(&[u8], &[u8])>
+    ensures size { IfSome result (λ parts. length parts.0.now + length parts.1.now + 1 ≡ length text.now) }
+    ensures value { MatchOption result (cut c text.now ≡ None) (λ parts. cut c text.now ≡ Some (parts.0.now, parts.1.now)) }
+{
+    let end = find(text, c)?;
+    Some((&text[..end], &text[end + 1..]))
+}
+
+// The clean mark.
+fn read_mark(line: &[u8]) -> Option<bool>
+    ensures { result ≡ mark_of line.now }
+{
+    match line {
+        [b'0', b'0'] => Some(false),
+        [b'0', b'1'] => Some(true),
+        _ => None,
+    }
+}
+
+fn read_frame(line: &[u8]) -> Option<[u8; FRAME]>
+    ensures { result ≡ frame_of line.now }
+{
+    if !is_lower_hex(line) {
+        return None;
+    }
+    <[u8; FRAME]>::from_hex(line).ok()
+}
+
+// Reads the frames of lines to the start of `frames`, and tells how many they are.
+fn read_frames(text: &[u8], frames: &mut [u8]) -> Option<usize>
+    requires { length text.now / line_width * frame_width ≤ length frames.old }
+    ensures { MatchOption result (frames_in text.now ≡ None) (λ n. (frames_in text.now ≡ Some (take (n * frame_width) frames.new)) × (n * line_width ≤ length text.now)) }
+{
+    let mut lines = text;
+    let mut pairs = 0;
+    while !lines.is_empty() {
+        let (line, others) = cut(lines, b'\n')?;
+        let frame = read_frame(line)?;
+        frames[pairs * FRAME..(pairs + 1) * FRAME].copy_from_slice(&frame);
+        pairs += 1;
+        lines = others;
+    }
+    Some(pairs)
+}
+
+/// Reads the clean mark, and the frames to the start of `frames`, and tells how many they are.
+#[tactic(auto, using(crate::proofs::ReadLaws::store_cut))]
+pub(crate) fn read_store(text: &[u8], frames: &mut [u8]) -> Option<(bool, usize)>
+    requires { length text.now / line_width * frame_width ≤ length frames.old }
+    ensures { MatchOption result (store_in text.now ≡ None) (λ read. (store_in text.now ≡ Some (read.0, take (read.1 * frame_width) frames.new)) × (read.1 * line_width ≤ length text.now)) }
+{
+    let (mark, lines) = cut(text, b'\n')?;
+    let clean = read_mark(mark)?;
+    let pairs = read_frames(lines, frames)?;
+    Some((clean, pairs))
+}
