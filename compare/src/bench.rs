@@ -70,6 +70,7 @@ pub fn run() -> ExitCode {
         && bench_slots::VALIDATE.measure()
         && bench_slots::HEADER_FACTS.measure()
         && bench_judge::JUDGE.measure()
+        && bench_judge::JUDGE_DAMAGED.measure()
         && bench_meta::VOLUME_DECODE.measure()
         && bench_meta::DECODE_PAGE.measure()
         && bench_meta::ENCODE_PAGE.measure()

@@ -1,10 +1,10 @@
-//! The judge to measure, on stores with one torn page where there is a page.
+//! The judge to measure: on stores with one torn page where there is a page, and on stores with damage in every eighth pair.
 
 use crate::bench::{cells, Contestant, Table, OURS};
 use crate::ffi;
 use crate::frames::{packed, Cut, Store};
-use crate::judge::{judge, PairRead, PairVerdict};
-use crate::judge_reference::{decode, judgement_numbers, NOT_JUDGED, VERDICT};
+use crate::judge::{judge, Judgement, PairRead, PairVerdict};
+use crate::judge_reference::{decode, judgement_numbers, verdict_bytes, NOT_JUDGED, NOT_READ, VERDICT};
 use crate::rng::Rng;
 use crate::slot::SlotInfo;
 use crate::slot_reference::some_info;
@@ -12,7 +12,7 @@ use std::cell::Cell;
 
 const CLEAN: u8 = 0;
 
-/// A store as frames and as pairs, with room for the verdicts of both.
+/// A store as frames and as pairs, with room for the verdicts of both. The buffers are used for every call.
 pub struct Input {
     frames: Vec<u8>,
     verdict_bytes: Vec<u8>,
@@ -21,27 +21,48 @@ pub struct Input {
     verdicts: Vec<PairVerdict>,
 }
 
-pub const JUDGE: Table<Input> = Table {
-    title: "judge",
+const SIZES: &[usize] = &[1, 16, 112, 624];
+
+const CONTESTANTS: &[Contestant<Input>] = &[
+    Contestant { name: "Rust over decoded pairs", call: rust_judge },
+    Contestant { name: "Rust with a plain decoder", call: decode_and_judge },
+    Contestant { name: OURS, call: our_judge },
+];
+
+pub const JUDGE: Table<Input> =
+    Table { title: "judge", unit: "pairs", sizes: SIZES, input: torn_store, contestants: CONTESTANTS };
+
+pub const JUDGE_DAMAGED: Table<Input> = Table {
+    title: "judge, damage in every eighth pair",
     unit: "pairs",
-    sizes: &[1, 16, 112, 624],
-    input: torn_store,
-    contestants: &[
-        Contestant { name: "Rust over decoded pairs", call: rust_judge },
-        Contestant { name: "Rust with decoding", call: decode_and_judge },
-        Contestant { name: OURS, call: our_judge },
-    ],
+    sizes: SIZES,
+    input: damaged_store,
+    contestants: CONTESTANTS,
 };
 
 fn torn_store(rng: &mut Rng, pairs: usize) -> Input {
     let mut store = Store::new(rng, pairs);
     store.write_some(rng, 2 * pairs);
     store.tear(rng, pairs / 2, Cut::Payload);
+    input(&store)
+}
+
+fn damaged_store(rng: &mut Rng, pairs: usize) -> Input {
+    let mut store = Store::new(rng, pairs);
+    store.write_some(rng, 2 * pairs);
+    for pair in (0..pairs).step_by(8) {
+        store.damage(rng, pair);
+    }
+    input(&store)
+}
+
+fn input(store: &Store) -> Input {
+    let pairs = store.row.len();
     let mut input = Input {
         frames: packed(&store.row),
         verdict_bytes: vec![0; pairs * VERDICT],
         some_info: some_info(),
-        pairs: Vec::new(),
+        pairs: vec![NOT_READ; pairs],
         verdicts: vec![NOT_JUDGED; pairs],
     };
     decode_and_judge(&mut input);
@@ -53,18 +74,24 @@ fn answer([slot, pair, writable, clean, refused]: [u64; 5]) -> u64 {
     pair << 8 | slot << 4 | writable << 2 | clean << 1 | refused
 }
 
-fn rust_judge(input: &mut Input) -> u64 {
-    let judgement = judge(&input.pairs, CLEAN == 1, &mut input.verdicts);
-    judgement.map_or(0, |judgement| answer(judgement_numbers(&judgement)))
+fn judgement(input: &mut Input) -> Option<Judgement> {
+    judge(&input.pairs, CLEAN == 1, &mut input.verdicts).ok()
 }
 
+fn rust_judge(input: &mut Input) -> u64 {
+    judgement(input).map_or(0, |judgement| answer(judgement_numbers(&judgement)))
+}
+
+/// Tests the ranges, and writes the verdicts' bytes.
 fn decode_and_judge(input: &mut Input) -> u64 {
-    input.pairs.clear();
-    if decode(&input.some_info, &input.frames, &mut input.pairs) {
-        rust_judge(input)
-    } else {
-        0
+    if !decode(&input.some_info, &input.frames, &mut input.pairs) {
+        return 0;
     }
+    let Some(judgement) = judgement(input) else { return 0 };
+    for (bytes, verdict) in input.verdict_bytes.chunks_exact_mut(VERDICT).zip(&input.verdicts) {
+        bytes.copy_from_slice(&verdict_bytes(verdict));
+    }
+    answer(judgement_numbers(&judgement))
 }
 
 fn our_judge(input: &mut Input) -> u64 {

@@ -41,6 +41,7 @@ pub const BLANK: u8 = 2;
 pub const BAD_HEADER: u8 = 4;
 pub const UNSUPPORTED: u8 = 5;
 pub const INCOMPATIBLE: u8 = 6;
+pub const MALFORMED: u8 = 7;
 pub const BAD_PAYLOAD: u8 = 11;
 pub const VALID: u8 = 12;
 
@@ -212,6 +213,18 @@ impl Store {
                 *slot = torn(rng, slot, cut);
             }
         }
+    }
+
+    /// Damages a slot of a pair, so that no torn write explains it.
+    pub fn damage(&mut self, rng: &mut Rng, pair: usize) {
+        let slot = rng.below(2);
+        let damaged = &mut self.row[pair][slot];
+        *damaged = match rng.below(4) {
+            0 => nothing(0),
+            1 => nothing(MALFORMED),
+            2 => Slot { code: BAD_PAYLOAD, previous: random_checksum(rng), ..*damaged },
+            _ => bad_header(random_checksum(rng)),
+        };
     }
 }
 

@@ -2,8 +2,8 @@
 
 use crate::frames::{FRAME, HALF};
 use crate::judge::{self, JudgeError, Judgement, PairRead, PairVerdict, SlotRead, SlotVerdict, Standing};
-use crate::slot::{HeaderFacts, NumberedHeader, SlotInfo};
-use crate::slot_reference::{index_number, some_info, status};
+use crate::slot::{HeaderFacts, NumberedHeader, SlotInfo, SlotStatus};
+use crate::slot_reference::{index_number, some_info};
 
 pub const NO_PAIR: u32 = 8;
 pub const VERDICTS_LEN: u32 = 9;
@@ -28,7 +28,7 @@ pub fn judge(frames: &[u8], clean: u8, verdicts_len: usize) -> Result<Judged, u3
     if verdicts_len != frames.len() / FRAME * VERDICT {
         return Err(VERDICTS_LEN);
     }
-    let mut pairs = Vec::new();
+    let mut pairs = vec![NOT_READ; frames.len() / FRAME];
     if !decode(&some_info(), frames, &mut pairs) || clean > 1 {
         return Err(BAD_FRAMES);
     }
@@ -39,7 +39,7 @@ pub fn judge(frames: &[u8], clean: u8, verdicts_len: usize) -> Result<Judged, u3
 
 /// The refusal of the pairs of whole frames where `room` verdicts are lent, and the verdicts that are left.
 pub fn judge_records(frames: &[u8], clean: bool, room: usize) -> (u32, Vec<u8>) {
-    let mut pairs = Vec::new();
+    let mut pairs = vec![NOT_READ; frames.len() / FRAME];
     assert!(decode(&some_info(), frames, &mut pairs), "a value is out of range");
     let mut verdicts = vec![NOT_JUDGED; room];
     let refusal = match judge::judge(&pairs, clean, &mut verdicts) {
@@ -54,27 +54,31 @@ pub fn judge_records(frames: &[u8], clean: bool, room: usize) -> (u32, Vec<u8>) 
 pub const NOT_JUDGED: PairVerdict =
     PairVerdict { standing: Standing::Lost, winner: None, a: SlotVerdict::Damage, b: SlotVerdict::Damage };
 
-/// Appends the pairs of whole frames; false where a code or facts are out of range. `some_info` is the info of any slot.
-pub fn decode(some_info: &SlotInfo, frames: &[u8], pairs: &mut Vec<PairRead>) -> bool {
-    for frame in frames.chunks_exact(FRAME) {
+/// A pair to be overwritten.
+pub const NOT_READ: PairRead = PairRead {
+    a: SlotRead { status: SlotStatus::ReadError, facts: None },
+    b: SlotRead { status: SlotStatus::ReadError, facts: None },
+};
+
+/// Reads whole frames into as many pairs; false where a code or facts are out of range. `some_info` is the info of any slot, since no
+/// other module than the reference's can make one.
+#[inline(never)]
+pub fn decode(some_info: &SlotInfo, frames: &[u8], pairs: &mut [PairRead]) -> bool {
+    for (frame, pair) in frames.chunks_exact(FRAME).zip(pairs) {
         let (a, b) = frame.split_at(HALF);
         let (Some(a), Some(b)) = (slot_read(some_info, a), slot_read(some_info, b)) else { return false };
-        pairs.push(PairRead { a, b });
+        *pair = PairRead { a, b };
     }
     true
 }
 
+#[inline(always)]
 fn slot_read(some_info: &SlotInfo, half: &[u8]) -> Option<SlotRead> {
     let half: &[u8; HALF] = half.try_into().ok()?;
     let generation = u64::from_le_bytes(field(half, 2));
     let meta_seq = u64::from_le_bytes(field(half, 10));
     let own = u32::from_le_bytes(field(half, 18));
     let prev_header_crc32c = u32::from_le_bytes(field(half, 22));
-    let mut info = *some_info;
-    info.generation = generation;
-    info.meta_seq = meta_seq;
-    info.header_crc32c = own;
-    info.prev_header_crc32c = prev_header_crc32c;
     let numbered = NumberedHeader { generation, meta_seq, prev_header_crc32c };
     let facts = match half[1] {
         0 => None,
@@ -82,7 +86,30 @@ fn slot_read(some_info: &SlotInfo, half: &[u8]) -> Option<SlotRead> {
         2 => Some(HeaderFacts { stored_header_crc32c: own, numbered: Some(numbered) }),
         _ => return None,
     };
-    Some(SlotRead { status: status(half[0].into(), &info)?, facts })
+    let status = match half[0] {
+        0 => SlotStatus::ReadError,
+        1 => SlotStatus::BadLength,
+        2 => SlotStatus::Blank,
+        3 => SlotStatus::BadMagic,
+        4 => SlotStatus::BadHeaderCrc,
+        5 => SlotStatus::UnsupportedVersion { major: 3 },
+        6 => SlotStatus::Incompatible { flags: 1 },
+        7 => SlotStatus::Malformed,
+        8 => SlotStatus::Foreign,
+        9 => SlotStatus::WrongObject,
+        10 => SlotStatus::Misplaced,
+        11 => SlotStatus::BadPayloadCrc,
+        12 => {
+            let mut info = *some_info;
+            info.generation = generation;
+            info.meta_seq = meta_seq;
+            info.header_crc32c = own;
+            info.prev_header_crc32c = prev_header_crc32c;
+            SlotStatus::Valid(info)
+        }
+        _ => return None,
+    };
+    Some(SlotRead { status, facts })
 }
 
 #[inline(always)]
@@ -90,24 +117,9 @@ fn field<const N: usize>(half: &[u8; HALF], at: usize) -> [u8; N] {
     std::array::from_fn(|i| half[at + i])
 }
 
-fn verdict_bytes(verdict: &PairVerdict) -> [u8; VERDICT] {
-    let standing = match verdict.standing {
-        Standing::Confirmed => 0,
-        Standing::Unconfirmed => 1,
-        Standing::Lost => 2,
-        Standing::Refused => 3,
-    };
-    [standing, verdict.winner.map_or(0, index_number), slot_byte(verdict.a), slot_byte(verdict.b)]
-}
-
-fn slot_byte(verdict: SlotVerdict) -> u8 {
-    match verdict {
-        SlotVerdict::Winner => 0,
-        SlotVerdict::Nothing => 1,
-        SlotVerdict::OlderDamaged => 2,
-        SlotVerdict::InFlight => 3,
-        SlotVerdict::Damage => 4,
-    }
+/// The enums' cases are in the order of their numbers.
+pub fn verdict_bytes(verdict: &PairVerdict) -> [u8; VERDICT] {
+    [verdict.standing as u8, verdict.winner.map_or(0, index_number), verdict.a as u8, verdict.b as u8]
 }
 
 pub fn judgement_numbers(judgement: &Judgement) -> [u64; 5] {

@@ -1,5 +1,5 @@
 //! Hands random rows, in lists like the fixed one of list_judge.rs, to the program `replay_judge`: both judges must answer
-//! what the reference answers.
+//! what the reference answers. The lists begin with a row each, of 1 pair to the most in turn, and go on with rows of few pairs.
 
 use crate::counts::{Answer, Counts, Function};
 use crate::frames::{packed, row_of};
@@ -18,9 +18,11 @@ const PAGE: &str = "judge over rows: page";
 
 const REFUSALS: &[Answer] = &[Answer::Refusal(NO_PAIR), Answer::Refusal(VERDICTS_LEN)];
 
-/// The most pairs of a row, and the most bytes of a list and of a line that the program takes.
-const MOST_PAIRS: usize = 5;
-const LONGEST_LIST: usize = 65_536;
+/// The most pairs of a row and the most bytes of a list that the program takes; of the other rows the most pairs, and the most bytes of
+/// a line.
+const MOST_PAIRS: usize = 624;
+const LONGEST_LIST: usize = 131_072;
+const FEW_PAIRS: usize = 5;
 const LONGEST_LINE: usize = 700;
 
 pub fn run(program: &str, seed: u64, lists: u64) -> ExitCode {
@@ -32,8 +34,9 @@ pub fn run(program: &str, seed: u64, lists: u64) -> ExitCode {
         Function::part(PAGE, VERDICTS),
     ];
     let mut run = Run { rng: Rng::new(seed), counts: Counts::new(functions.iter()) };
-    for _ in 0..lists {
-        if let Err(mismatch) = compare(&mut run, program) {
+    for number in 0..lists {
+        let pairs = 1 + number as usize % MOST_PAIRS;
+        if let Err(mismatch) = compare(&mut run, program, pairs) {
             print!("{mismatch}");
             return ExitCode::FAILURE;
         }
@@ -44,21 +47,23 @@ pub fn run(program: &str, seed: u64, lists: u64) -> ExitCode {
         println!("fault of the driver:\n{}", faults.join("\n"));
         return ExitCode::FAILURE;
     }
-    println!("rows: {} cases in {lists} lists, all equal", run.counts.total());
+    println!("rows: {} cases in {lists} lists, rows of up to {} pairs, all equal", run.counts.total(), MOST_PAIRS.min(lists as usize));
     ExitCode::SUCCESS
 }
 
-/// One list, as long as the program takes it.
-fn compare(run: &mut Run, program: &str) -> Checked {
+/// One list, as long as the program takes it, that begins with a row of so many pairs.
+fn compare(run: &mut Run, program: &str, pairs: usize) -> Checked {
     let mut list = List::new(run.rng.next());
-    let mut judged = 0;
+    judged_row(run, &mut list, pairs);
+    let mut judged = 1;
     let mut refused = 0;
     while list.text.len() + LONGEST_LINE <= LONGEST_LIST {
         if list.rng.one_in(16) {
             refused_row(run, &mut list);
             refused += 1;
         } else {
-            judged_row(run, &mut list);
+            let pairs = 1 + list.rng.below(FEW_PAIRS);
+            judged_row(run, &mut list, pairs);
             judged += 1;
         }
     }
@@ -76,8 +81,7 @@ fn compare(run: &mut Run, program: &str) -> Checked {
     })
 }
 
-fn judged_row(run: &mut Run, list: &mut List) {
-    let pairs = 1 + list.rng.below(MOST_PAIRS);
+fn judged_row(run: &mut Run, list: &mut List, pairs: usize) {
     let clean = u8::from(list.rng.one_in(3));
     let frames = packed(&row_of(&mut list.rng, pairs));
     let judged = both(list, clean, &frames);
@@ -87,8 +91,8 @@ fn judged_row(run: &mut Run, list: &mut List) {
 
 /// No pair, or verdicts for another number of pairs.
 fn refused_row(run: &mut Run, list: &mut List) {
-    let pairs = list.rng.below(MOST_PAIRS + 1);
-    let room = list.rng.below(MOST_PAIRS + 1);
+    let pairs = list.rng.below(FEW_PAIRS + 1);
+    let room = list.rng.below(FEW_PAIRS + 1);
     let clean = list.rng.below(2) as u8;
     let row = if pairs == 0 { Vec::new() } else { row_of(&mut list.rng, pairs) };
     let room = if room == pairs { pairs.saturating_sub(1) } else { room };

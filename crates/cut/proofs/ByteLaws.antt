@@ -18,7 +18,7 @@ bytes_tested [] test i = lit< tt
 bytes_tested (x ∷ s) test zero = ltb-true x 256 (both _ _ test).0
 bytes_tested (x ∷ s) test (suc i) = bytes_tested s (both _ _ test).1 i
 
-number_bytes : (i k n : ℕ) → AllBytes (bytes_low_first i k n)
+pub number_bytes : (i k n : ℕ) → AllBytes (bytes_low_first i k n)
 number_bytes i zero n j = lit< tt
 number_bytes zero (suc k) n zero = omega arith
 number_bytes (suc i) (suc k) n zero = omega arith

@@ -75,9 +75,12 @@ report p = read_pair p.a.bytes p.a.expect p.b.bytes p.b.expect
 abbrev pub slot_read : Slot → SlotRead
 slot_read s = record { status = status s; facts = header_facts s.bytes s.expect }
 
--- The row of pairs as they are read, with what is left in the frames' other fields.
+-- A pair as it is read, with what is left in the other fields of its frame; and the row of them.
+abbrev pub framed_pair : Pair → Framed
+framed_pair p = record { pair = record { a = slot_read p.a; b = slot_read p.b }; rest_a = p.a.rest; rest_b = p.b.rest }
+
 abbrev pub framed : List Pair → List Framed
-framed ps = map (λ p. record { pair = record { a = slot_read p.a; b = slot_read p.b }; rest_a = p.a.rest; rest_b = p.b.rest }) ps
+framed ps = map framed_pair ps
 
 abbrev pub reads : List Pair → List PairRead
 reads ps = pairs_of (framed ps)

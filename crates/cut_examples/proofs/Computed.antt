@@ -1,27 +1,23 @@
 -- What specs/Cuts.antt expects is computed from the definitions, without the theorem. How each slot is read is computed first, and from
 -- that the frames, the verdicts and the records.
-use Rattle.std.proofs.Common.{◌≡◌, refl, ◌∙◌, Bool, true, false, cond, List, [], ◌∷◌, ℕ, replicate}
-use Rattle.codec.specs.Bytes.{le, bytes, flag}
+use Rattle.std.proofs.Common.{◌≡◌, refl, ◌∙◌, Bool, true, false, cond, List, [], ◌∷◌, ℕ, replicate, Option, Some, None, Ok}
+use Rattle.codec.specs.Bytes.{le}
 use Rattle.codec.specs.Crc32c.{crc32c, finalRemainder, remainder, digest, reversed}
-use Rattle.slot.specs.Read.{lengthOk, headerSum, integrity, numberOk, shape, place, check, parseHeader, payloadStart, payloadLength, payload as payload_of, payloadOk}
-use Rattle.slot.specs.Write.{frontBytes, identityBytes, historyBytes, headerBytes, encodedBytes}
+use Rattle.slot.specs.Payload.{payload as payload_of}
+use Rattle.slot.specs.Read.{is_slot_length, header_sum, passes_checksum, is_malformed, check, passes_payload}
+use Rattle.slot.specs.Write.{header_bytes, encode}
 use Rattle.slot.specs.declared.slot.SlotIndex.{SlotIndex}
 use Rattle.slot.specs.declared.slot.SlotInfo.{SlotInfo}
-use Rattle.pair.specs.Pair.{decide, winnerInfo}
-use Rattle.pair.specs.declared.pair.WinnerInfo.{WinnerInfo}
-use Rattle.frame.specs.Frame.{partFrom, partBytes}
-use Rattle.verdict.specs.Verdict.{byIndex}
-use Rattle.verdict.specs.declared.verdict.Heal.{Heal}
-use Rattle.candidate.specs.Pairs.{numbered, badPayload, badHeader, blank, oppositeSlot, unsupported, newer, pairCase}
-use Rattle.verdict.specs.Judge.{firstVerdicts, firstTally, cleanMark, storeRules, demoted, pairHeal, writable, rowRules, verdicts, judgeRow}
-use Rattle.judge_frames.specs.Frames.{pairFrom, partInRange, pairInRange, refusal, judged, judgedBytes, framesOf}
-use Rattle.judge.specs.declared.SlotRead.{SlotRead}
-use Rattle.verdict.specs.declared.verdict.Judged.{Judged}
-use Rattle.page_write.specs.Write.{headerBytes as page_header_bytes}
-use Rattle.volume_base.specs.Base.{baseBytes}
-use Rattle.volume_tail.specs.Tail.{tail_bytes}
-use Rattle.volume.specs.Volume.{volumeBytes}
-use Rattle.cut.specs.Store.{Every, Volume, Page, accepts, clean_mark, filled, slot_read}
+use Rattle.pair.specs.Pair.{decide, winner_info}
+use Rattle.judge.specs.Verdict.{by_index}
+use Rattle.judge.specs.Judge.{first_verdicts, first_tally, row_rules, verdicts, judgement}
+use Rattle.judge.specs.Part.{part_bytes}
+use Rattle.judge.specs.Frames.{frames_error, judge_frames, frames_left}
+use Rattle.judge.specs.Same.{filled, frames_of, mark}
+use Rattle.judge.specs.declared.records.SlotRead.{SlotRead}
+use Rattle.meta.specs.Volume.{volume_bytes}
+use Rattle.meta.specs.Page.{header_bytes as page_header_bytes}
+use Rattle.cut.specs.Store.{Every, Volume, Page, accepts, clean_mark, slot_read}
 use Rattle.cut.specs.Cut.{cut, left, with_bytes, with_slot, stands_whole}
 use Rattle.cut.proofs.StatementLaws.{page_handed}
 use Rattle.cut_examples.specs.Stores.{volume_record, page_record, volume_fields, volume_pair, first_page, second_fields, second_page, later_page}
@@ -29,7 +25,7 @@ use Rattle.cut_examples.specs.Writes.{page_write, volume_write, second_write, la
 use Rattle.cut_examples.proofs.Writes.{summed_slot, summed_is, none_refused, volume_sum, second_sum, volume_handed, old_page, new_page, blank_bytes, marked_bytes, next_page, newer_slot, later_slot, old_page_is, new_page_is, marked_bytes_is, next_page_is, newer_slot_is, later_slot_is, page_accepted, volume_accepted}
 use Rattle.cut_examples.specs.Computed.{Computed, blank_read, bad_magic, torn_header, torn_payload, valid_read}
 use Rattle.cut_examples.specs.Cuts.{old_records, new_page_records, older_read, torn_page, new_read, PageCuts, torn_volume, marked_read, VolumeCuts, damaged_volume, MagicCuts, OtherCuts}
-use Rattle.cut_examples.proofs.SlotsRead.{PairRecord, more, none, read_once, read_once_is, filled_row, pair_record, computed_row}
+use Rattle.cut_examples.proofs.SlotsRead.{PairRecord, more, none, read_once, read_once_is, framed_row, pair_record, computed_row}
 
 -- ---- the slots that are not written, as they are read
 
@@ -51,13 +47,13 @@ abbrev second_slot : List ℕ
 second_slot = summed_slot 0x2c8c_2a3c 0x3eb4_2e60 second_fields (page_record 1 0)
 
 payload_sums : (crc32c (volume_record false) ≡ 0x69eb_46ec) × (crc32c (page_record 1 0) ≡ 0x3eb4_2e60)
-unfolding volumeBytes baseBytes tail_bytes page_header_bytes bytes crc32c finalRemainder remainder digest reversed
+unfolding volume_bytes page_header_bytes crc32c finalRemainder remainder digest reversed
 payload_sums = (refl, refl)
 
-volume_slot_is : encodedBytes volume_fields (volume_record false) (replicate 512 0) ≡ volume_slot
+volume_slot_is : (encode volume_fields (volume_record false) (replicate 512 0)).0 ≡ volume_slot
 volume_slot_is = summed_is 0 SlotIndex.A 1 0 1 (volume_record false) 0x1d15_7c74 0x69eb_46ec none_refused.0 volume_sum payload_sums.0
 
-second_slot_is : encodedBytes second_fields (page_record 1 0) (replicate 512 0) ≡ second_slot
+second_slot_is : (encode second_fields (page_record 1 0) (replicate 512 0)).0 ≡ second_slot
 second_slot_is = summed_is 2 SlotIndex.A 1 0 3 (page_record 1 0) 0x2c8c_2a3c 0x3eb4_2e60 none_refused.3 second_sum payload_sums.1
 
 -- Each as it is read.
@@ -65,31 +61,31 @@ slots_read : (read_once volume_slot volume_pair.a.expect ≡ volume_read) × (re
     × (read_once old_page first_page.a.expect ≡ older_read) × (read_once newer_slot first_page.b.expect ≡ newer_read)
     × (read_once second_slot second_page.a.expect ≡ second_read) × (read_once blank_bytes second_page.b.expect ≡ blank_read)
     × (read_once new_page later_page.a.expect ≡ new_read)
-unfolding lengthOk parseHeader check integrity shape place numberOk payloadOk payload_of payloadStart payloadLength headerSum headerBytes frontBytes identityBytes historyBytes volumeBytes baseBytes tail_bytes page_header_bytes bytes le crc32c finalRemainder remainder digest reversed
+unfolding is_slot_length check passes_checksum is_malformed passes_payload payload_of header_sum header_bytes volume_bytes page_header_bytes le crc32c finalRemainder remainder digest reversed
 slots_read = (refl, refl, refl, refl, refl, refl, refl)
 
 -- After no byte the slot of the page is the old one, and after the last the new one.
 page_ends : (read_once (cut 0 new_page old_page) first_page.a.expect ≡ older_read) × (read_once (cut 512 new_page old_page) first_page.a.expect ≡ new_read)
-unfolding cut headerBytes frontBytes identityBytes historyBytes page_header_bytes bytes
+unfolding cut header_bytes page_header_bytes
 page_ends = (slots_read.2, slots_read.6)
 
 -- The pairs of them, with their records.
 volume_pair_read : PairRecord volume_pair (record { a = volume_read; b = blank_read }) (volume_record false)
-unfolding decide payload_of payloadStart payloadLength headerBytes frontBytes identityBytes historyBytes volumeBytes baseBytes tail_bytes bytes
+unfolding payload_of header_bytes volume_bytes decide
 volume_pair_read =
     rw volume_slot_is
     (pair_record volume_slot blank_bytes volume_pair.a.expect volume_pair.b.expect Volume (record { a = volume_read; b = blank_read })
     (volume_record false) slots_read.0 slots_read.1 refl refl volume_accepted.0)
 
 first_page_read : PairRecord first_page (record { a = older_read; b = newer_read }) (page_record 0 2)
-unfolding decide payload_of payloadStart payloadLength headerBytes frontBytes identityBytes historyBytes page_header_bytes bytes
+unfolding payload_of header_bytes page_header_bytes decide
 first_page_read =
     rw (old_page_is, newer_slot_is)
     (pair_record old_page newer_slot first_page.a.expect first_page.b.expect (Page 0 41) (record { a = older_read; b = newer_read })
     (page_record 0 2) slots_read.2 slots_read.3 refl refl page_accepted.1)
 
 second_page_read : PairRecord second_page (record { a = second_read; b = blank_read }) (page_record 1 0)
-unfolding decide payload_of payloadStart payloadLength headerBytes frontBytes identityBytes historyBytes page_header_bytes bytes
+unfolding payload_of header_bytes page_header_bytes decide
 second_page_read =
     rw second_slot_is
     (pair_record second_slot blank_bytes second_page.a.expect second_page.b.expect (Page 1 41) (record { a = second_read; b = blank_read })
@@ -99,8 +95,8 @@ second_page_read =
 
 -- The page's slot A after k bytes is read as x.
 module _ (k : ℕ) (x : SlotRead) (read : read_once (cut k new_page old_page) first_page.a.expect ≡ x)
-    {index : SlotIndex} {i : SlotInfo} (won : winnerInfo (decide x.status newer_read.status) ≡ WinnerInfo.Won index i)
-    {r : List ℕ} (back : payload_of i (byIndex index (cut k new_page old_page) newer_slot) ≡ r)
+    {index : SlotIndex} {i : SlotInfo} (won : winner_info (decide x.status newer_read.status) ≡ Some (index, i))
+    {r : List ℕ} (back : payload_of i (by_index index (cut k new_page old_page) newer_slot) ≡ r)
     (accepted : accepts (Page 0 41) r ≡ true) where
   page_slot_read : slot_read (with_bytes (left (page_write k)) first_page.a) ≡ x
   page_slot_read = rw (new_page_is, old_page_is) (read_once_is (cut k new_page old_page) first_page.a.expect ∙ read)
@@ -113,24 +109,24 @@ module _ (k : ℕ) (x : SlotRead) (read : read_once (cut k new_page old_page) fi
 
   abbrev page_row : List ℕ
   page_row =
-      framesOf
-      (filled_row
+      frames_of
+      (framed_row
       (record { a = volume_read; b = blank_read } ∷ record { a = x; b = newer_read } ∷ record { a = second_read; b = blank_read } ∷ []))
 
-  page_at : {heal : Heal} {verdict : List ℕ}
-      → judged page_row 0 12 ≡ Judged.Done (record { heal = heal; writable = true; clean = false; refused = false })
-      → judgedBytes page_row 0 (replicate 12 0) ≡ verdict
+  page_at : {heal : Option (ℕ × SlotIndex)} {verdict : List ℕ}
+      → judge_frames page_row 0 12 ≡ Ok (record { heal = heal; writable = true; clean = false; refused = false })
+      → frames_left page_row 0 (replicate 12 0) ≡ verdict
       → Computed (page_write k) x heal false verdict (volume_record false ∷ r ∷ page_record 1 0 ∷ [])
   page_at =
-      computed_row (page_write k) {mark = false} page_slot_read (more volume_pair_read (more page_pair_read (more second_page_read none)))
+      computed_row (page_write k) {clean_mark = false} page_slot_read (more volume_pair_read (more page_pair_read (more second_page_read none)))
       (page_handed (page_write k) volume_pair [] refl)
 
 -- The volume record's slot B after k bytes is read as x, and the judge is handed the mark.
 module _ (k : ℕ) (x : SlotRead) (read : read_once (cut k marked_bytes blank_bytes) volume_pair.b.expect ≡ x)
-    {index : SlotIndex} {i : SlotInfo} (won : winnerInfo (decide volume_read.status x.status) ≡ WinnerInfo.Won index i)
-    {r : List ℕ} (back : payload_of i (byIndex index volume_slot (cut k marked_bytes blank_bytes)) ≡ r)
-    (accepted : accepts Volume r ≡ true) (mark : Bool)
-    (mark_is : cond (stands_whole (cut k marked_bytes blank_bytes) marked_bytes (volume_record true)) (clean_mark (volume_record true)) false ≡ mark) where
+    {index : SlotIndex} {i : SlotInfo} (won : winner_info (decide volume_read.status x.status) ≡ Some (index, i))
+    {r : List ℕ} (back : payload_of i (by_index index volume_slot (cut k marked_bytes blank_bytes)) ≡ r)
+    (accepted : accepts Volume r ≡ true) (shut : Bool)
+    (mark_is : cond (stands_whole (cut k marked_bytes blank_bytes) marked_bytes (volume_record true)) (clean_mark (volume_record true)) false ≡ shut) where
   marked_slot_read : slot_read (with_bytes (left (volume_write k)) volume_pair.b) ≡ x
   marked_slot_read = rw marked_bytes_is (read_once_is (cut k marked_bytes blank_bytes) volume_pair.b.expect ∙ read)
 
@@ -142,27 +138,27 @@ module _ (k : ℕ) (x : SlotRead) (read : read_once (cut k marked_bytes blank_by
 
   abbrev volume_row : List ℕ
   volume_row =
-      framesOf
-      (filled_row
+      frames_of
+      (framed_row
       (record { a = volume_read; b = x } ∷ record { a = older_read; b = newer_read } ∷ record { a = second_read; b = blank_read } ∷ []))
 
-  volume_at : {heal : Heal} {clean : Bool} {verdict : List ℕ}
-      → judged volume_row (flag mark) 12 ≡ Judged.Done (record { heal = heal; writable = true; clean = clean; refused = false })
-      → judgedBytes volume_row (flag mark) (replicate 12 0) ≡ verdict
+  volume_at : {heal : Option (ℕ × SlotIndex)} {clean : Bool} {verdict : List ℕ}
+      → judge_frames volume_row (mark shut) 12 ≡ Ok (record { heal = heal; writable = true; clean = clean; refused = false })
+      → frames_left volume_row (mark shut) (replicate 12 0) ≡ verdict
       → Computed (volume_write k) x heal clean verdict (r ∷ page_record 0 2 ∷ page_record 1 0 ∷ [])
   volume_at =
-      computed_row (volume_write k) {mark = mark} marked_slot_read (more marked_pair_read (more first_page_read (more second_page_read none))) (volume_handed k ∙ mark_is)
+      computed_row (volume_write k) {clean_mark = shut} marked_slot_read (more marked_pair_read (more first_page_read (more second_page_read none))) (volume_handed k ∙ mark_is)
 
 -- The second page's slot B after 140 bytes.
 abbrev torn_second : SlotRead
 torn_second = torn_payload 2 5 0x24b0_a7e6 0x2c8c_2a3c
 
 torn_second_read : read_once (cut 140 next_page blank_bytes) second_page.b.expect ≡ torn_second
-unfolding cut lengthOk parseHeader check integrity shape place numberOk payloadOk payload_of payloadStart payloadLength headerSum headerBytes frontBytes identityBytes historyBytes page_header_bytes bytes le crc32c finalRemainder remainder digest reversed
+unfolding cut is_slot_length check passes_checksum is_malformed passes_payload payload_of header_sum header_bytes page_header_bytes le crc32c finalRemainder remainder digest reversed
 torn_second_read = refl
 
 torn_pair_read : PairRecord (with_slot SlotIndex.B (left (second_write 140)) second_page) (record { a = second_read; b = torn_second }) (page_record 1 0)
-unfolding decide payload_of payloadStart payloadLength headerBytes frontBytes identityBytes historyBytes page_header_bytes bytes
+unfolding payload_of header_bytes page_header_bytes decide
 torn_pair_read =
     rw (next_page_is, second_slot_is)
     (pair_record second_slot (cut 140 next_page blank_bytes) second_page.a.expect second_page.b.expect (Page 1 41)
@@ -170,7 +166,7 @@ torn_pair_read =
 
 -- The first page's slot B after k bytes is read as x, and A of generation 3 is the winner.
 module _ (k : ℕ) (x : SlotRead) (read : read_once (cut k later_slot newer_slot) later_page.b.expect ≡ x)
-    {i : SlotInfo} (won : winnerInfo (decide new_read.status x.status) ≡ WinnerInfo.Won SlotIndex.A i)
+    {i : SlotInfo} (won : winner_info (decide new_read.status x.status) ≡ Some (SlotIndex.A, i))
     (back : payload_of i new_page ≡ page_record 0 0x304) where
   later_slot_read : slot_read (with_bytes (left (later_write k)) later_page.b) ≡ x
   later_slot_read = rw (newer_slot_is, later_slot_is) (read_once_is (cut k later_slot newer_slot) later_page.b.expect ∙ read)
@@ -183,22 +179,22 @@ module _ (k : ℕ) (x : SlotRead) (read : read_once (cut k later_slot newer_slot
 
   abbrev later_row : List ℕ
   later_row =
-      framesOf
-      (filled_row
+      frames_of
+      (framed_row
       (record { a = volume_read; b = blank_read } ∷ record { a = new_read; b = x } ∷ record { a = second_read; b = blank_read } ∷ []))
 
-  later_at : {heal : Heal} {verdict : List ℕ}
-      → judged later_row 0 12 ≡ Judged.Done (record { heal = heal; writable = true; clean = false; refused = false })
-      → judgedBytes later_row 0 (replicate 12 0) ≡ verdict
+  later_at : {heal : Option (ℕ × SlotIndex)} {verdict : List ℕ}
+      → judge_frames later_row 0 12 ≡ Ok (record { heal = heal; writable = true; clean = false; refused = false })
+      → frames_left later_row 0 (replicate 12 0) ≡ verdict
       → Computed (later_write k) x heal false verdict new_page_records
   later_at =
-      computed_row (later_write k) {mark = false} later_slot_read (more volume_pair_read (more later_pair_read (more second_page_read none)))
+      computed_row (later_write k) {clean_mark = false} later_slot_read (more volume_pair_read (more later_pair_read (more second_page_read none)))
       (page_handed (later_write k) volume_pair [] refl)
 
 -- ---- the cuts
 
 pub page_computed : PageCuts
-unfolding cut lengthOk parseHeader check integrity shape place numberOk payloadOk payload_of payloadStart payloadLength headerSum headerBytes frontBytes identityBytes historyBytes page_header_bytes bytes le crc32c finalRemainder remainder digest reversed decide filled partBytes judged judgedBytes refusal judgeRow verdicts rowRules firstVerdicts firstTally writable storeRules cleanMark demoted pairHeal pairFrom partFrom partInRange pairInRange numbered badPayload badHeader blank oppositeSlot unsupported newer pairCase
+unfolding cut is_slot_length check passes_checksum is_malformed passes_payload payload_of header_sum header_bytes page_header_bytes le crc32c finalRemainder remainder digest reversed decide filled part_bytes judge_frames frames_left frames_error judgement verdicts row_rules first_verdicts first_tally
 page_computed =
     record {
       page_0 = page_at 0 older_read page_ends.0 refl refl page_accepted.1 refl refl;
@@ -213,7 +209,7 @@ page_computed =
     }
 
 pub volume_computed : VolumeCuts
-unfolding cut lengthOk parseHeader check integrity shape place numberOk payloadOk payload_of payloadStart payloadLength headerSum headerBytes frontBytes identityBytes historyBytes volumeBytes baseBytes tail_bytes bytes le crc32c finalRemainder remainder digest reversed decide filled partBytes judged judgedBytes refusal judgeRow verdicts rowRules firstVerdicts firstTally writable storeRules cleanMark demoted pairHeal pairFrom partFrom partInRange pairInRange numbered badPayload badHeader blank oppositeSlot unsupported newer pairCase stands_whole
+unfolding cut is_slot_length check passes_checksum is_malformed passes_payload payload_of header_sum header_bytes volume_bytes le crc32c finalRemainder remainder digest reversed decide filled part_bytes judge_frames frames_left frames_error judgement verdicts row_rules first_verdicts first_tally stands_whole
 volume_computed =
     record {
       volume_0 = volume_at 0 blank_read refl refl refl volume_accepted.0 false refl refl refl;
@@ -226,11 +222,11 @@ volume_computed =
     }
 
 pub other_computed : OtherCuts
-unfolding cut lengthOk parseHeader check integrity shape place numberOk payloadOk payload_of payloadStart payloadLength headerSum headerBytes frontBytes identityBytes historyBytes page_header_bytes bytes le crc32c finalRemainder remainder digest reversed decide filled partBytes judged judgedBytes refusal judgeRow verdicts rowRules firstVerdicts firstTally writable storeRules cleanMark demoted pairHeal pairFrom partFrom partInRange pairInRange numbered badPayload badHeader blank oppositeSlot unsupported newer pairCase
+unfolding cut is_slot_length check passes_checksum is_malformed passes_payload payload_of header_sum header_bytes page_header_bytes le crc32c finalRemainder remainder digest reversed decide filled part_bytes judge_frames frames_left frames_error judgement verdicts row_rules first_verdicts first_tally
 other_computed =
     record {
       second_140 =
-          computed_row (second_write 140) {mark = false} (rw next_page_is (read_once_is (cut 140 next_page blank_bytes) second_page.b.expect ∙ torn_second_read))
+          computed_row (second_write 140) {clean_mark = false} (rw next_page_is (read_once_is (cut 140 next_page blank_bytes) second_page.b.expect ∙ torn_second_read))
           (more volume_pair_read (more first_page_read (more torn_pair_read none))) (page_handed (second_write 140) volume_pair (first_page ∷ []) refl) refl refl;
       later_64 = later_at 64 (torn_header 0xe83c_e718) refl refl refl refl refl;
       later_133 = later_at 133 (torn_payload 4 6 0xe83c_e718 0xd61e_00d0) refl refl refl refl refl;
@@ -240,12 +236,12 @@ other_computed =
 
 module _ (k : ℕ) (read : read_once (cut k marked_bytes blank_bytes) volume_pair.b.expect ≡ bad_magic)
     (mark_is : cond (stands_whole (cut k marked_bytes blank_bytes) marked_bytes (volume_record true)) (clean_mark (volume_record true)) false ≡ false) where
-  magic_at : Computed (volume_write k) bad_magic Heal.Nothing false damaged_volume old_records
-  unfolding payload_of payloadStart payloadLength headerBytes frontBytes identityBytes historyBytes volumeBytes baseBytes tail_bytes bytes le decide filled partBytes judged judgedBytes refusal judgeRow verdicts rowRules firstVerdicts firstTally writable storeRules cleanMark demoted pairHeal pairFrom partFrom partInRange pairInRange numbered badPayload badHeader blank oppositeSlot unsupported newer pairCase
+  magic_at : Computed (volume_write k) bad_magic None false damaged_volume old_records
+  unfolding payload_of header_bytes volume_bytes le decide filled part_bytes judge_frames frames_left frames_error judgement verdicts row_rules first_verdicts first_tally
   magic_at = volume_at k bad_magic read refl refl volume_accepted.0 false mark_is refl refl
 
 pub magic_computed : MagicCuts
-unfolding cut lengthOk parseHeader check integrity headerBytes frontBytes identityBytes historyBytes volumeBytes baseBytes tail_bytes bytes le stands_whole
+unfolding cut is_slot_length check header_bytes volume_bytes le stands_whole
 magic_computed =
     Every.more (magic_at 1 refl refl)
     (Every.more (magic_at 2 refl refl)

@@ -1,36 +1,33 @@
 -- What specs/Writes.antt says of the stores and the writes. The slots are what `encode` writes; the checksums are computed.
-use Rattle.std.proofs.Common.{◌≡◌, refl, sym, ap, subst, ◌∙◌, inl, inr, Bool, true, false, cond, not, List, [], ◌∷◌, ◌++◌, ℕ, ◌+◌, ◌-◌, ◌*◌, ◌^◌, ◌≤◌, ◌<◌, max, arith, leb-true, eqb-true, eq-eqb, leb, eqb, lit≤, lit<, length, get_or, take, replicate}
+use Rattle.std.proofs.Common.{◌≡◌, refl, sym, ap, subst, ◌∙◌, inl, inr, Bool, true, false, cond, not, nat_eq, ◌==◌, List, [], ◌∷◌, ◌++◌, ℕ, ◌+◌, ◌-◌, ◌*◌, ◌^◌, ◌≤◌, ◌<◌, max, arith, leb-true, eqb-true, eq-eqb, leb, eqb, lit≤, lit<, length, get_or, take, replicate, Some, Result, Ok}
 use borrow.Author.Tests.{not-true}
-use Rattle.codec.specs.Bytes.{AllBytes, le, le16, le32, bytes, same}
+use lib.Pointwise.{pointwise, bytes_decides}
+use Rattle.codec.specs.Bytes.{AllBytes, le, le16, le32}
 use Rattle.codec.specs.Crc32c.{crc32c, finalRemainder, remainder, digest, reversed}
-use Rattle.codec.proofs.CursorLaws.{append-bytes, zero-bytes, bytes-tested}
-use Rattle.codec.proofs.FieldLaws.{row-bytes}
-use Rattle.codec.proofs.RunLaws.{same_true}
-use Rattle.slot.specs.Status.{indexNumber, other}
-use Rattle.slot.specs.Read.{headerSum, lengthOk, numberOk, payload as payload_of, validate}
-use Rattle.slot.specs.Write.{frontBytes, identityBytes, historyBytes, headerBytes, headerCrc, writtenHeader, slotBytes, encodeRefusal, encodedBytes}
+use Rattle.codec.proofs.ByteLaws.{append-bytes, zero-bytes}
+use Rattle.slot.specs.Status.{index_number, other}
+use Rattle.slot.specs.Payload.{payload as payload_of}
+use Rattle.slot.specs.Read.{header_sum, is_slot_length, number_ok, validate}
+use Rattle.slot.specs.Write.{header_bytes, header_crc, written_header, slot_bytes, encode_check, encoded, encode}
+use Rattle.slot.specs.Laws.{Fits, info_of, IsReadBack}
 use Rattle.slot.specs.declared.slot.SlotIndex.{SlotIndex}
 use Rattle.slot.specs.declared.slot.SlotFields.{SlotFields}
 use Rattle.slot.specs.declared.slot.SlotInfo.{SlotInfo}
 use Rattle.slot.specs.declared.slot.SlotStatus.{SlotStatus}
 use Rattle.slot.specs.declared.slot.Expect.{Expect}
-use Rattle.encode.proofs.EncodeLaws.{Fits, infoOf}
-use Rattle.encode.proofs.RoundTrip.{written, encode-valid, encode-payload}
-use Rattle.pair.specs.Pair.{winnerInfo}
-use Rattle.pair.specs.declared.pair.WinnerInfo.{WinnerInfo}
-use Rattle.candidate.specs.Numbers.{slots, highest}
-use Rattle.region.specs.Block.{clamp, blockSize, entriesPerPage}
-use Rattle.volume_base.specs.Base.{baseCheck, decodeBase, baseBytes}
-use Rattle.volume_tail.specs.Tail.{tail_bytes}
-use Rattle.volume.specs.Volume.{tailCheck, decodeVolume, volumeBytes}
-use Rattle.page.specs.Read.{decodePage}
-use Rattle.page_write.specs.Write.{headerBytes as page_header_bytes}
-use Rattle.page_write.proofs.PageLaws.{headerRow as page_header_row}
-use Rattle.cut.specs.Store.{Every, Decoder, Volume, Page, accepts, clean_mark, Pair, slot_at, status, report, parts, store_mark, Typed, SoundSlot, Beside, SoundPair, Sound}
+use Rattle.slot.specs.declared.slot.EncodeError.{EncodeError}
+use Rattle.slot.proofs.RoundTripLaws.{round_trip}
+use Rattle.pair.specs.Pair.{winner_info}
+use Rattle.judge.specs.Numbers.{slots, highest}
+use Rattle.meta.specs.Block.{block_size, entries_per_page}
+use Rattle.meta.specs.Base.{base_at, check_base}
+use Rattle.meta.specs.Volume.{tail_at, check_tail, check_volume, decode_volume, volume_bytes as volume_record_bytes}
+use Rattle.meta.specs.Page.{header_at, decode_page, entries, header_row as page_header_row, header_bytes as page_header_bytes}
+use Rattle.cut.specs.Store.{Every, Decoder, Volume, Page, accepts, clean_mark, Pair, slot_at, status, report, shown, store_mark, Typed, SoundSlot, Beside, SoundPair, Sound}
 use Rattle.cut.specs.Cut.{Write, store, size, old, new, cut, CutPoint, CorrectWrite, stands_whole, whole, payload_in, Accident, handed}
 use Rattle.cut_examples.specs.Stores.{volume_record, page_record, rest, fields, read_with, written_slot, blank_slot, volume_fields, volume_pair, older_fields, newer_fields, first_page, second_fields, second_page, new_fields, later_page, first_store, later_store}
 use Rattle.cut_examples.specs.Writes.{IsMet, StoresSound, MetIsEnough, write_to, page_write, marked_fields, volume_write, next_fields, second_write, later_fields, later_write, PageMet, VolumeMet, SecondMet, LaterMet, StandsWhole, MarkHanded}
-use Rattle.cut.proofs.ByteLaws.{slot_bytes}
+use Rattle.cut.proofs.ByteLaws.{bytes_tested, number_bytes, row_bytes, slot_all_bytes}
 use Rattle.cut.proofs.StatusLaws.{false_true}
 use Rattle.cut.proofs.PairLaws.{valid_number, blank_number, sound_won}
 use Rattle.cut.proofs.CutLaws.{differ, failed_sum, failed_payload}
@@ -39,16 +36,16 @@ use Rattle.cut.proofs.Theorem.{cut_theorem}
 
 -- ---- slots of 512 bytes
 
-index_offset : (object : ℕ) (index : SlotIndex) → object ≤ 2 → 1024 * object + 512 * indexNumber index < 2 ^ 64
+index_offset : (object : ℕ) (index : SlotIndex) → object ≤ 2 → 1024 * object + 512 * index_number index < 2 ^ 64
 index_offset object SlotIndex.A small = omega arith
 index_offset object SlotIndex.B small = omega arith
 
 -- What is known of a slot that `encode` wrote, in a pair with a decoder.
 record Known (f : SlotFields) (payload : List ℕ) (decoder : Decoder) : Type 0 where
   pub slot : SoundSlot (written_slot f payload)
-  pub valid : status (written_slot f payload) ≡ SlotStatus.Valid (infoOf f payload)
-  pub record_is : payload_of (infoOf f payload) (written_slot f payload).bytes ≡ payload
-  pub accepted : accepts decoder (payload_of (infoOf f payload) (written_slot f payload).bytes) ≡ true
+  pub valid : status (written_slot f payload) ≡ SlotStatus.Valid (info_of f payload)
+  pub record_is : payload_of (info_of f payload) (written_slot f payload).bytes ≡ payload
+  pub accepted : accepts decoder (payload_of (info_of f payload) (written_slot f payload).bytes) ≡ true
 
 module _ (object : ℕ) (index : SlotIndex) (generation prev number : ℕ) (object_small : object ≤ 2) where
   abbrev f : SlotFields
@@ -59,7 +56,7 @@ module _ (object : ℕ) (index : SlotIndex) (generation prev number : ℕ) (obje
       record {
         bytes = all;
         volume = refl;
-        volume_bytes = bytes-tested (replicate 16 7) refl;
+        volume_bytes = bytes_tested (replicate 16 7) refl;
         object = omega arith;
         offset = index_offset object index object_small;
         generation = lit< tt;
@@ -84,22 +81,23 @@ module _ (object : ℕ) (index : SlotIndex) (generation prev number : ℕ) (obje
           compat = lit< tt;
         }
 
-    module _ (payload : List ℕ) (all : AllBytes payload) (none : encodeRefusal f payload 512 ≡ 0) (number_ok : numberOk 2 true number ≡ true) where
+    module _ (payload : List ℕ) (all : AllBytes payload) (none : encode_check f payload 512 ≡ Ok tt) (numbered : number_ok 2 true number ≡ true) where
+      back : IsReadBack (encode f payload (replicate 512 0)).0 f payload true
+      back = round_trip.written f payload (replicate 512 0) true fields_fit none numbered
+
+      written_bytes : AllBytes (encode f payload (replicate 512 0)).0
+      unfolding encode
+      written_bytes =
+          subst AllBytes (sym (ap (λ (answer : Result (Unit {0}) EncodeError). (encoded f payload (replicate 512 0) answer).0) none))
+          (slot_all_bytes f payload (bytes_tested (replicate 16 7) refl) all)
+
       written_known : (decoder : Decoder) → accepts decoder payload ≡ true → Known f payload decoder
       written_known decoder takes =
           record {
-            slot =
-                record {
-                  typed =
-                      typed_with (encodedBytes f payload (replicate 512 0))
-                      (subst AllBytes (sym (written f payload (replicate 512 0) none fields_fit true number_ok))
-                      (slot_bytes f payload (bytes-tested (replicate 16 7) refl) all));
-                  format = refl;
-                  numbered = refl;
-                };
-            valid = encode-valid f payload (replicate 512 0) none fields_fit true number_ok;
-            record_is = encode-payload f payload (replicate 512 0) none fields_fit true number_ok;
-            accepted = ap (accepts decoder) (encode-payload f payload (replicate 512 0) none fields_fit true number_ok) ∙ takes;
+            slot = record { typed = typed_with (encode f payload (replicate 512 0)).0 written_bytes; format = refl; numbered = refl };
+            valid = back.valid;
+            record_is = back.payload-same;
+            accepted = ap (accepts decoder) back.payload-same ∙ takes;
           }
 
 blank_sound : (object : ℕ) (index : SlotIndex) → object ≤ 2 → SoundSlot (blank_slot object index)
@@ -107,60 +105,60 @@ blank_sound object index small =
     record {
       typed =
           typed_with object index 0 0 0 small (replicate 128 0 ++ replicate 384 9)
-          (append-bytes (replicate 128 0) (replicate 384 9) (zero-bytes 128) (bytes-tested (replicate 384 9) refl));
+          (append-bytes (replicate 128 0) (replicate 384 9) (zero-bytes 128) (bytes_tested (replicate 384 9) refl));
       format = refl;
       numbered = refl;
     }
 
 blank_status : (object : ℕ) (index : SlotIndex) → status (blank_slot object index) ≡ SlotStatus.Blank
-unfolding validate lengthOk
+unfolding validate is_slot_length
 blank_status object index = refl
 
 -- ---- records
 
 volume_bytes : AllBytes (volume_record false) × AllBytes (volume_record true)
-unfolding volumeBytes baseBytes tail_bytes bytes
-volume_bytes = (bytes-tested (volume_record false) refl, bytes-tested (volume_record true) refl)
+unfolding volume_record_bytes
+volume_bytes = (bytes_tested (volume_record false) refl, bytes_tested (volume_record true) refl)
 
 pub volume_accepted : (accepts Volume (volume_record false) ≡ true) × (accepts Volume (volume_record true) ≡ true)
     × (clean_mark (volume_record true) ≡ true)
-unfolding volumeBytes baseBytes tail_bytes bytes decodeVolume decodeBase baseCheck tailCheck entriesPerPage blockSize clamp le
+unfolding volume_record_bytes decode_volume base_at tail_at check_volume check_base check_tail entries_per_page block_size le
 volume_accepted = (refl, refl, refl)
 
 page_bytes : (index next : ℕ) → AllBytes (page_record index next)
 unfolding page_header_bytes
 page_bytes index next =
-    row-bytes (page_header_row (record { page_index = index; next_seq = next; count = 0 })) [] (zero-bytes 0) (zero-bytes 14, tt)
+    row_bytes (page_header_row (record { page_index = index; next_seq = next; count = 0 }))
+    (number_bytes 0 4 index, (number_bytes 0 4 next, (number_bytes 0 2 0, (zero-bytes 14, tt))))
 
 page_fits : (index next : ℕ) → 128 + length (page_record index next) ≤ 512
-unfolding page_header_bytes bytes
+unfolding page_header_bytes
 page_fits index next = lit≤ tt
 
 pub page_accepted : (accepts (Page 0 41) (page_record 0 1) ≡ true) × (accepts (Page 0 41) (page_record 0 2) ≡ true)
     × (accepts (Page 0 41) (page_record 0 0x304) ≡ true) × (accepts (Page 0 41) (page_record 0 0x21b9_61ac) ≡ true)
     × (accepts (Page 1 41) (page_record 1 0) ≡ true) × (accepts (Page 1 41) (page_record 1 1) ≡ true)
-unfolding page_header_bytes bytes decodePage le
+unfolding page_header_bytes decode_page header_at entries le
 page_accepted = (refl, refl, refl, refl, refl, refl)
 
 -- ---- the store
 
 -- The checksums of the first page's headers and payloads.
-older_sums : (headerCrc older_fields (page_record 0 1) ≡ 0x588e_9174) × (crc32c (page_record 0 1) ≡ 0xb3b8_1b53)
-unfolding headerCrc headerBytes frontBytes identityBytes historyBytes page_header_bytes bytes crc32c finalRemainder remainder digest reversed
+older_sums : (header_crc older_fields (page_record 0 1) ≡ 0x588e_9174) × (crc32c (page_record 0 1) ≡ 0xb3b8_1b53)
+unfolding header_crc header_bytes page_header_bytes crc32c finalRemainder remainder digest reversed
 older_sums = (refl, refl)
 
-newer_sums : (headerCrc newer_fields (page_record 0 2) ≡ 0xe83c_e718) × (crc32c (page_record 0 2) ≡ 0xea7c_0394)
-unfolding headerCrc headerBytes frontBytes identityBytes historyBytes page_header_bytes bytes crc32c finalRemainder remainder digest reversed
+newer_sums : (header_crc newer_fields (page_record 0 2) ≡ 0xe83c_e718) × (crc32c (page_record 0 2) ≡ 0xea7c_0394)
+unfolding header_crc header_bytes page_header_bytes crc32c finalRemainder remainder digest reversed
 newer_sums = (refl, refl)
 
 -- `encode` refuses none of the slots.
-pub none_refused : (encodeRefusal volume_fields (volume_record false) 512 ≡ 0) × (encodeRefusal older_fields (page_record 0 1) 512 ≡ 0)
-    × (encodeRefusal newer_fields (page_record 0 2) 512 ≡ 0) × (encodeRefusal second_fields (page_record 1 0) 512 ≡ 0)
-unfolding encodeRefusal volumeBytes baseBytes tail_bytes page_header_bytes bytes
+pub none_refused : (encode_check volume_fields (volume_record false) 512 ≡ Ok tt) × (encode_check older_fields (page_record 0 1) 512 ≡ Ok tt)
+    × (encode_check newer_fields (page_record 0 2) 512 ≡ Ok tt) × (encode_check second_fields (page_record 1 0) 512 ≡ Ok tt)
+unfolding encode_check volume_record_bytes page_header_bytes
 none_refused = (refl, refl, refl, refl)
 
-numbers_ok : (numberOk 2 true 1 ≡ true) × (numberOk 2 true 2 ≡ true) × (numberOk 2 true 3 ≡ true) × (numberOk 2 true 4 ≡ true)
-unfolding numberOk
+numbers_ok : (number_ok 2 true 1 ≡ true) × (number_ok 2 true 2 ≡ true) × (number_ok 2 true 3 ≡ true) × (number_ok 2 true 4 ≡ true)
 numbers_ok = (refl, refl, refl, refl)
 
 volume_known : Known volume_fields (volume_record false) Volume
@@ -190,7 +188,7 @@ first_written object number payload decoder small known =
     record {
       slots = elim [ SlotIndex.A ↦ known.slot | SlotIndex.B ↦ blank_sound object SlotIndex.B small ];
       newer = SlotIndex.A;
-      info = infoOf (fields object SlotIndex.A 1 0 number) payload;
+      info = info_of (fields object SlotIndex.A 1 0 number) payload;
       valid = known.valid;
       accepted = known.accepted;
       beside = Beside.first refl refl (blank_status object SlotIndex.B);
@@ -205,11 +203,11 @@ first_sound =
     record {
       slots = elim [ SlotIndex.A ↦ older_known.slot | SlotIndex.B ↦ newer_known.slot ];
       newer = SlotIndex.B;
-      info = infoOf newer_fields (page_record 0 2);
+      info = info_of newer_fields (page_record 0 2);
       valid = newer_known.valid;
       accepted = newer_known.accepted;
       beside =
-          Beside.both (infoOf older_fields (page_record 0 1)) older_known.valid refl (lit< tt) (sym older_sums.0) older_known.accepted;
+          Beside.both (info_of older_fields (page_record 0 1)) older_known.valid refl (lit< tt) (sym older_sums.0) older_known.accepted;
     }
 
 unfoldable second_sound : SoundPair second_page
@@ -227,54 +225,54 @@ sound_with p page sound =
     (Every.more volume_sound (Every.more sound (Every.more second_sound Every.none)))
 
 unmarked_with : (p : Pair) → store_mark (store_with p) ≡ false
-unfolding volume_sound first_written volumeBytes baseBytes tail_bytes bytes
+unfolding volume_sound first_written volume_record_bytes
 unmarked_with p = unmarked_store volume_pair (p ∷ second_page ∷ []) volume_sound (ap (λ (r : List ℕ). get_or r 54 0) volume_known.record_is)
 
 highest_with : (p : Pair) (i j : SlotInfo) → status p.a ≡ SlotStatus.Valid i → status p.b ≡ SlotStatus.Valid j
-    → highest (slots (parts (store_with p))) ≡ max 1 (max 0 (max i.meta_seq (max j.meta_seq 3)))
+    → highest (slots (shown (store_with p))) ≡ max 1 (max 0 (max i.meta_seq (max j.meta_seq 3)))
 highest_with p i j valid_a valid_b =
     simp (
-      valid_number volume_pair SlotIndex.A (infoOf volume_fields (volume_record false)) volume_known.valid,
+      valid_number volume_pair SlotIndex.A (info_of volume_fields (volume_record false)) volume_known.valid,
       blank_number volume_pair SlotIndex.B (blank_status 0 SlotIndex.B),
       valid_number p SlotIndex.A i valid_a,
       valid_number p SlotIndex.B j valid_b,
-      valid_number second_page SlotIndex.A (infoOf second_fields (page_record 1 0)) second_known.valid,
+      valid_number second_page SlotIndex.A (info_of second_fields (page_record 1 0)) second_known.valid,
       blank_number second_page SlotIndex.B (blank_status 2 SlotIndex.B),
     )
 
 sound : Sound first_store
 sound = sound_with first_page refl first_sound
 
-highest_number : highest (slots (parts first_store)) ≡ 4
+highest_number : highest (slots (shown first_store)) ≡ 4
 highest_number =
-    highest_with first_page (infoOf older_fields (page_record 0 1)) (infoOf newer_fields (page_record 0 2)) older_known.valid newer_known.valid
+    highest_with first_page (info_of older_fields (page_record 0 1)) (info_of newer_fields (page_record 0 2)) older_known.valid newer_known.valid
 
 -- ---- no accident
 
 -- That there is none, as a test.
 abbrev safe : List ℕ → List ℕ → List ℕ → List ℕ → Bool
 safe s before after payload =
-    cond (same (take 128 s) (take 128 after))
-    (cond (same (payload_in s payload) payload) true (not (eqb (crc32c (payload_in s payload)) (le32 s 28))))
-    (cond (same (take 128 s) (take 128 before)) true (not (eqb (headerSum s (le16 s 12)) (le32 s 8))))
+    cond (pointwise nat_eq (take 128 s) (take 128 after))
+    (cond (pointwise nat_eq (payload_in s payload) payload) true (not (crc32c (payload_in s payload) == le32 s 28)))
+    (cond (pointwise nat_eq (take 128 s) (take 128 before)) true (not (header_sum s (le16 s 12) == le32 s 8)))
 
 safe_none : (s before after payload : List ℕ) → safe s before after payload ≡ true → Accident s before after payload → ⊥
 safe_none s before after payload =
-    go (same (take 128 s) (take 128 after)) refl (same (payload_in s payload) payload) refl (same (take 128 s) (take 128 before)) refl
+    go (pointwise nat_eq (take 128 s) (take 128 after)) refl (pointwise nat_eq (payload_in s payload) payload) refl (pointwise nat_eq (take 128 s) (take 128 before)) refl
   where
-    go : (x : Bool) → same (take 128 s) (take 128 after) ≡ x → (y : Bool) → same (payload_in s payload) payload ≡ y
-        → (z : Bool) → same (take 128 s) (take 128 before) ≡ z
-        → cond x (cond y true (not (eqb (crc32c (payload_in s payload)) (le32 s 28))))
-        (cond z true (not (eqb (headerSum s (le16 s 12)) (le32 s 8)))) ≡ true
+    go : (x : Bool) → pointwise nat_eq (take 128 s) (take 128 after) ≡ x → (y : Bool) → pointwise nat_eq (payload_in s payload) payload ≡ y
+        → (z : Bool) → pointwise nat_eq (take 128 s) (take 128 before) ≡ z
+        → cond x (cond y true (not (crc32c (payload_in s payload) == le32 s 28)))
+        (cond z true (not (header_sum s (le16 s 12) == le32 s 8))) ≡ true
         → Accident s before after payload → ⊥
     go true is_new true same_payload z is_old test (Accident.header passes not_old not_new) =
-        not_new (same_true (take 128 s) (take 128 after) is_new)
-    go true is_new true same_payload z is_old test (Accident.payload header other passes) = other (same_true (payload_in s payload) payload same_payload)
+        not_new ((bytes_decides (take 128 s) (take 128 after)).0 is_new)
+    go true is_new true same_payload z is_old test (Accident.payload header other passes) = other ((bytes_decides (payload_in s payload) payload).0 same_payload)
     go true is_new false same_payload z is_old test accident =
-        failed_payload s before after payload (same_true (take 128 s) (take 128 after) is_new)
+        failed_payload s before after payload ((bytes_decides (take 128 s) (take 128 after)).0 is_new)
         (λ stored. false_true {A = ⊥} (not-true _ test) (eq-eqb _ _ stored)) accident
     go false is_new y same_payload true is_old test (Accident.header passes not_old not_new) =
-        not_old (same_true (take 128 s) (take 128 before) is_old)
+        not_old ((bytes_decides (take 128 s) (take 128 before)).0 is_old)
     go false is_new y same_payload true is_old test (Accident.payload header other passes) = differ (take 128 s) (take 128 after) is_new header
     go false is_new y same_payload false is_old test accident =
         failed_sum s before after payload (differ (take 128 s) (take 128 after) is_new)
@@ -315,10 +313,10 @@ module _ (w : Write) (sound_store : Sound (store w)) (no_mark : store_mark (stor
 -- ---- writes
 
 -- The identity is that of the slot, and the number is one above the highest n of the store.
-module _ (before : List Pair) (p : Pair) (behind : List Pair) {n : ℕ} (highest_is : highest (slots (parts (before ++ p ∷ behind))) ≡ n)
+module _ (before : List Pair) (p : Pair) (behind : List Pair) {n : ℕ} (highest_is : highest (slots (shown (before ++ p ∷ behind))) ≡ n)
     (f : SlotFields) (fits : Fits f) (format : f.format_major ≡ 2) (log2 : f.log2_slot_size ≡ 9) (number : f.meta_seq ≡ n + 1)
     (asked : read_with f ≡ (slot_at f.slot_index p).expect) where
-  write_correct : (i : SlotInfo) → winnerInfo (report p) ≡ WinnerInfo.Won (other f.slot_index) i
+  write_correct : (i : SlotInfo) → winner_info (report p) ≡ Some ((other f.slot_index), i)
       → f.generation ≡ i.generation + 1 → f.prev_header_crc32c ≡ i.header_crc32c
       → (payload : List ℕ) → AllBytes payload → accepts p.decoder payload ≡ true → 128 + length payload ≤ 512
       → (k : ℕ) → CorrectWrite (write_to before p behind f payload k)
@@ -347,15 +345,17 @@ module _ (before : List Pair) (p : Pair) (behind : List Pair) {n : ℕ} (highest
 
 -- A slot with its checksums as numbers.
 abbrev pub summed_slot : ℕ → ℕ → SlotFields → List ℕ → List ℕ
-summed_slot crc payload_crc f payload = headerBytes crc f (length payload) payload_crc ++ payload ++ replicate (512 - (128 + length payload)) 0
+summed_slot crc payload_crc f payload = header_bytes crc f (length payload) payload_crc ++ (payload ++ replicate (512 - 128 - length payload) 0)
 
 pub summed_is : (object : ℕ) (index : SlotIndex) (generation prev number : ℕ) (payload : List ℕ) (crc payload_crc : ℕ)
-    → encodeRefusal (fields object index generation prev number) payload 512 ≡ 0
-    → headerCrc (fields object index generation prev number) payload ≡ crc → crc32c payload ≡ payload_crc
-    → encodedBytes (fields object index generation prev number) payload (replicate 512 0)
+    → encode_check (fields object index generation prev number) payload 512 ≡ Ok tt
+    → header_crc (fields object index generation prev number) payload ≡ crc → crc32c payload ≡ payload_crc
+    → (encode (fields object index generation prev number) payload (replicate 512 0)).0
     ≡ summed_slot crc payload_crc (fields object index generation prev number) payload
-unfolding encodedBytes slotBytes writtenHeader
-summed_is object index generation prev number payload crc payload_crc none sum payload_sum = simp (none, sum, payload_sum)
+unfolding encode slot_bytes written_header
+summed_is object index generation prev number payload crc payload_crc none sum payload_sum =
+    ap (λ (answer : Result (Unit {0}) EncodeError). (encoded (fields object index generation prev number) payload (replicate 512 0) answer).0) none
+    ∙ simp (sum, payload_sum)
 
 -- ---- a write to a page
 
@@ -364,16 +364,16 @@ unfolding first_sound
 page_correct =
     write_correct (volume_pair ∷ []) first_page (second_page ∷ []) highest_number new_fields
     (fields_fit 1 SlotIndex.A 3 0xe83c_e718 5 (lit≤ tt) (lit< tt) (lit< tt) (lit< tt)) refl refl refl refl
-    (infoOf newer_fields (page_record 0 2)) (sound_won first_page first_sound) refl (sym newer_sums.0) (page_record 0 0x304) (page_bytes 0 0x304)
+    (info_of newer_fields (page_record 0 2)) (sound_won first_page first_sound) refl (sym newer_sums.0) (page_record 0 0x304) (page_bytes 0 0x304)
     page_accepted.2
     (page_fits 0 0x304)
 
-new_sums : (headerCrc new_fields (page_record 0 0x304) ≡ 0xd61e_00d0) × (crc32c (page_record 0 0x304) ≡ 0x9755_91c2)
-unfolding headerCrc headerBytes frontBytes identityBytes historyBytes page_header_bytes bytes crc32c finalRemainder remainder digest reversed
+new_sums : (header_crc new_fields (page_record 0 0x304) ≡ 0xd61e_00d0) × (crc32c (page_record 0 0x304) ≡ 0x9755_91c2)
+unfolding header_crc header_bytes page_header_bytes crc32c finalRemainder remainder digest reversed
 new_sums = (refl, refl)
 
-new_refusal : encodeRefusal new_fields (page_record 0 0x304) 512 ≡ 0
-unfolding encodeRefusal page_header_bytes bytes
+new_refusal : encode_check new_fields (page_record 0 0x304) 512 ≡ Ok tt
+unfolding encode_check page_header_bytes
 new_refusal = refl
 
 abbrev pub old_page : List ℕ
@@ -382,17 +382,17 @@ old_page = summed_slot 0x588e_9174 0xb3b8_1b53 older_fields (page_record 0 1)
 abbrev pub new_page : List ℕ
 new_page = summed_slot 0xd61e_00d0 0x9755_91c2 new_fields (page_record 0 0x304)
 
-pub old_page_is : encodedBytes older_fields (page_record 0 1) (replicate 512 0) ≡ old_page
+pub old_page_is : (encode older_fields (page_record 0 1) (replicate 512 0)).0 ≡ old_page
 old_page_is = summed_is 1 SlotIndex.A 1 0 2 (page_record 0 1) 0x588e_9174 0xb3b8_1b53 none_refused.1 older_sums.0 older_sums.1
 
-pub new_page_is : encodedBytes new_fields (page_record 0 0x304) (replicate 512 0) ≡ new_page
+pub new_page_is : (encode new_fields (page_record 0 0x304) (replicate 512 0)).0 ≡ new_page
 new_page_is = summed_is 1 SlotIndex.A 3 0xe83c_e718 5 (page_record 0 0x304) 0xd61e_00d0 0x9755_91c2 new_refusal new_sums.0 new_sums.1
 
 page_met : (k : ℕ) → cut_tests k new_page old_page (page_record 0 0x304) ≡ true → IsMet (page_write k)
 page_met k = met_by (page_write k) sound (unmarked_with first_page) (page_correct k) refl old_page new_page old_page_is new_page_is
 
 pub page_cuts : PageMet
-unfolding cut headerSum headerBytes frontBytes identityBytes historyBytes page_header_bytes bytes le crc32c finalRemainder remainder digest reversed
+unfolding cut header_sum header_bytes page_header_bytes le crc32c finalRemainder remainder digest reversed
 page_cuts =
     Every.more (page_met 0 refl)
     (Every.more (page_met 8 refl)
@@ -403,7 +403,7 @@ page_cuts =
     (Every.more (page_met 133 refl) (Every.more (page_met 134 refl) (Every.more (page_met 512 refl) Every.none))))))))
 
 pub page_whole : StandsWhole
-unfolding stands_whole cut headerBytes frontBytes identityBytes historyBytes page_header_bytes bytes
+unfolding stands_whole cut header_bytes page_header_bytes
 page_whole = (whole_at 133, whole_at 134)
   where
     whole_at : (k : ℕ) → whole (page_write k) ≡ stands_whole (cut k new_page old_page) new_page (page_record 0 0x304)
@@ -412,11 +412,11 @@ page_whole = (whole_at 133, whole_at 134)
 -- ---- a write to the volume record, with its clean mark set
 
 volume_length : length (volume_record true) ≡ 64
-unfolding volumeBytes baseBytes tail_bytes bytes
+unfolding volume_record_bytes
 volume_length = refl
 
-pub volume_sum : headerCrc volume_fields (volume_record false) ≡ 0x1d15_7c74
-unfolding headerCrc headerBytes frontBytes identityBytes historyBytes volumeBytes baseBytes tail_bytes bytes crc32c finalRemainder remainder digest reversed
+pub volume_sum : header_crc volume_fields (volume_record false) ≡ 0x1d15_7c74
+unfolding header_crc header_bytes volume_record_bytes crc32c finalRemainder remainder digest reversed
 volume_sum = refl
 
 volume_correct : (k : ℕ) → CorrectWrite (volume_write k)
@@ -424,16 +424,16 @@ unfolding volume_sound first_written
 volume_correct =
     write_correct [] volume_pair (first_page ∷ second_page ∷ []) highest_number marked_fields
     (fields_fit 0 SlotIndex.B 2 0x1d15_7c74 5 (lit≤ tt) (lit< tt) (lit< tt) (lit< tt)) refl refl refl refl
-    (infoOf volume_fields (volume_record false)) (sound_won volume_pair volume_sound) refl (sym volume_sum) (volume_record true) volume_bytes.1
+    (info_of volume_fields (volume_record false)) (sound_won volume_pair volume_sound) refl (sym volume_sum) (volume_record true) volume_bytes.1
     volume_accepted.1
     (rw volume_length (lit≤ tt))
 
-marked_sums : (headerCrc marked_fields (volume_record true) ≡ 0x880c_0bb0) × (crc32c (volume_record true) ≡ 0xa2bd_3d49)
-unfolding headerCrc headerBytes frontBytes identityBytes historyBytes volumeBytes baseBytes tail_bytes bytes crc32c finalRemainder remainder digest reversed
+marked_sums : (header_crc marked_fields (volume_record true) ≡ 0x880c_0bb0) × (crc32c (volume_record true) ≡ 0xa2bd_3d49)
+unfolding header_crc header_bytes volume_record_bytes crc32c finalRemainder remainder digest reversed
 marked_sums = (refl, refl)
 
-marked_refusal : encodeRefusal marked_fields (volume_record true) 512 ≡ 0
-unfolding encodeRefusal volumeBytes baseBytes tail_bytes bytes
+marked_refusal : encode_check marked_fields (volume_record true) 512 ≡ Ok tt
+unfolding encode_check volume_record_bytes
 marked_refusal = refl
 
 abbrev pub blank_bytes : List ℕ
@@ -442,14 +442,14 @@ blank_bytes = (blank_slot 0 SlotIndex.B).bytes
 abbrev pub marked_bytes : List ℕ
 marked_bytes = summed_slot 0x880c_0bb0 0xa2bd_3d49 marked_fields (volume_record true)
 
-pub marked_bytes_is : encodedBytes marked_fields (volume_record true) (replicate 512 0) ≡ marked_bytes
+pub marked_bytes_is : (encode marked_fields (volume_record true) (replicate 512 0)).0 ≡ marked_bytes
 marked_bytes_is = summed_is 0 SlotIndex.B 2 0x1d15_7c74 5 (volume_record true) 0x880c_0bb0 0xa2bd_3d49 marked_refusal marked_sums.0 marked_sums.1
 
 volume_met : (k : ℕ) → cut_tests k marked_bytes blank_bytes (volume_record true) ≡ true → IsMet (volume_write k)
 volume_met k = met_by (volume_write k) sound (unmarked_with first_page) (volume_correct k) refl blank_bytes marked_bytes refl marked_bytes_is
 
 pub volume_cuts : VolumeMet
-unfolding cut headerSum headerBytes frontBytes identityBytes historyBytes volumeBytes baseBytes tail_bytes bytes le crc32c finalRemainder remainder digest reversed
+unfolding cut header_sum header_bytes volume_record_bytes le crc32c finalRemainder remainder digest reversed
 volume_cuts =
     Every.more (volume_met 0 refl)
     (Every.more (volume_met 8 refl)
@@ -464,7 +464,7 @@ unfolding handed
 volume_handed k = rw marked_bytes_is
 
 pub volume_marks : MarkHanded
-unfolding stands_whole cut headerBytes frontBytes identityBytes historyBytes volumeBytes baseBytes tail_bytes bytes
+unfolding stands_whole cut header_bytes volume_record_bytes
 volume_marks = (torn_handed (volume_write 191) (whole_at 191), whole_handed (volume_write 192) refl (whole_at 192) ∙ volume_accepted.2)
   where
     whole_at : (k : ℕ) → whole (volume_write k) ≡ stands_whole (cut k marked_bytes blank_bytes) marked_bytes (volume_record true)
@@ -472,16 +472,16 @@ volume_marks = (torn_handed (volume_write 191) (whole_at 191), whole_handed (vol
 
 -- ---- a write of a page over a Blank slot
 
-pub second_sum : headerCrc second_fields (page_record 1 0) ≡ 0x2c8c_2a3c
-unfolding headerCrc headerBytes frontBytes identityBytes historyBytes page_header_bytes bytes crc32c finalRemainder remainder digest reversed
+pub second_sum : header_crc second_fields (page_record 1 0) ≡ 0x2c8c_2a3c
+unfolding header_crc header_bytes page_header_bytes crc32c finalRemainder remainder digest reversed
 second_sum = refl
 
-next_sums : (headerCrc next_fields (page_record 1 1) ≡ 0x24b0_a7e6) × (crc32c (page_record 1 1) ≡ 0x09f7_d9dd)
-unfolding headerCrc headerBytes frontBytes identityBytes historyBytes page_header_bytes bytes crc32c finalRemainder remainder digest reversed
+next_sums : (header_crc next_fields (page_record 1 1) ≡ 0x24b0_a7e6) × (crc32c (page_record 1 1) ≡ 0x09f7_d9dd)
+unfolding header_crc header_bytes page_header_bytes crc32c finalRemainder remainder digest reversed
 next_sums = (refl, refl)
 
-next_refusal : encodeRefusal next_fields (page_record 1 1) 512 ≡ 0
-unfolding encodeRefusal page_header_bytes bytes
+next_refusal : encode_check next_fields (page_record 1 1) 512 ≡ Ok tt
+unfolding encode_check page_header_bytes
 next_refusal = refl
 
 second_correct : (k : ℕ) → CorrectWrite (second_write k)
@@ -489,25 +489,24 @@ unfolding second_sound first_written
 second_correct =
     write_correct (volume_pair ∷ first_page ∷ []) second_page [] highest_number next_fields
     (fields_fit 2 SlotIndex.B 2 0x2c8c_2a3c 5 (lit≤ tt) (lit< tt) (lit< tt) (lit< tt)) refl refl refl refl
-    (infoOf second_fields (page_record 1 0)) (sound_won second_page second_sound) refl (sym second_sum) (page_record 1 1) (page_bytes 1 1)
+    (info_of second_fields (page_record 1 0)) (sound_won second_page second_sound) refl (sym second_sum) (page_record 1 1) (page_bytes 1 1)
     page_accepted.5
     (page_fits 1 1)
 
 abbrev pub next_page : List ℕ
 next_page = summed_slot 0x24b0_a7e6 0x09f7_d9dd next_fields (page_record 1 1)
 
-pub next_page_is : encodedBytes next_fields (page_record 1 1) (replicate 512 0) ≡ next_page
+pub next_page_is : (encode next_fields (page_record 1 1) (replicate 512 0)).0 ≡ next_page
 next_page_is = summed_is 2 SlotIndex.B 2 0x2c8c_2a3c 5 (page_record 1 1) 0x24b0_a7e6 0x09f7_d9dd next_refusal next_sums.0 next_sums.1
 
 pub second_cut : SecondMet
-unfolding cut headerSum headerBytes frontBytes identityBytes historyBytes page_header_bytes bytes le crc32c finalRemainder remainder digest reversed
+unfolding cut header_sum header_bytes page_header_bytes le crc32c finalRemainder remainder digest reversed
 second_cut =
     met_by (second_write 140) sound (unmarked_with first_page) (second_correct 140) refl blank_bytes next_page refl next_page_is refl
 
 -- ---- a write over an older slot B
 
 new_known : Known new_fields (page_record 0 0x304) (Page 0 41)
-unfolding numberOk
 new_known =
     written_known 1 SlotIndex.A 3 0xe83c_e718 5 (lit≤ tt) (lit< tt) (lit< tt) (lit< tt) (page_record 0 0x304) (page_bytes 0 0x304) new_refusal refl
     (Page 0 41) page_accepted.2
@@ -517,11 +516,11 @@ later_sound =
     record {
       slots = elim [ SlotIndex.A ↦ new_known.slot | SlotIndex.B ↦ newer_known.slot ];
       newer = SlotIndex.A;
-      info = infoOf new_fields (page_record 0 0x304);
+      info = info_of new_fields (page_record 0 0x304);
       valid = new_known.valid;
       accepted = new_known.accepted;
       beside =
-          Beside.both (infoOf newer_fields (page_record 0 2)) newer_known.valid refl (lit< tt) (sym newer_sums.0) newer_known.accepted;
+          Beside.both (info_of newer_fields (page_record 0 2)) newer_known.valid refl (lit< tt) (sym newer_sums.0) newer_known.accepted;
     }
 
 later_store_sound : Sound later_store
@@ -530,22 +529,22 @@ later_store_sound = sound_with later_page refl later_sound
 pub stores_sound : StoresSound
 stores_sound = (sound, later_store_sound)
 
-later_sums : (headerCrc later_fields (page_record 0 0x21b9_61ac) ≡ 0xe83c_e718) × (crc32c (page_record 0 0x21b9_61ac) ≡ 0x906d_1021)
-unfolding headerCrc headerBytes frontBytes identityBytes historyBytes page_header_bytes bytes crc32c finalRemainder remainder digest reversed
+later_sums : (header_crc later_fields (page_record 0 0x21b9_61ac) ≡ 0xe83c_e718) × (crc32c (page_record 0 0x21b9_61ac) ≡ 0x906d_1021)
+unfolding header_crc header_bytes page_header_bytes crc32c finalRemainder remainder digest reversed
 later_sums = (refl, refl)
 
-later_refusal : encodeRefusal later_fields (page_record 0 0x21b9_61ac) 512 ≡ 0
-unfolding encodeRefusal page_header_bytes bytes
+later_refusal : encode_check later_fields (page_record 0 0x21b9_61ac) 512 ≡ Ok tt
+unfolding encode_check page_header_bytes
 later_refusal = refl
 
 later_correct : (k : ℕ) → CorrectWrite (later_write k)
 unfolding later_sound
 later_correct =
     write_correct (volume_pair ∷ []) later_page (second_page ∷ [])
-    (highest_with later_page (infoOf new_fields (page_record 0 0x304)) (infoOf newer_fields (page_record 0 2)) new_known.valid newer_known.valid)
+    (highest_with later_page (info_of new_fields (page_record 0 0x304)) (info_of newer_fields (page_record 0 2)) new_known.valid newer_known.valid)
     later_fields
     (fields_fit 1 SlotIndex.B 4 0xd61e_00d0 6 (lit≤ tt) (lit< tt) (lit< tt) (lit< tt)) refl refl refl refl
-    (infoOf new_fields (page_record 0 0x304)) (sound_won later_page later_sound) refl (sym new_sums.0) (page_record 0 0x21b9_61ac)
+    (info_of new_fields (page_record 0 0x304)) (sound_won later_page later_sound) refl (sym new_sums.0) (page_record 0 0x21b9_61ac)
     (page_bytes 0 0x21b9_61ac)
     page_accepted.3
     (page_fits 0 0x21b9_61ac)
@@ -556,10 +555,10 @@ newer_slot = summed_slot 0xe83c_e718 0xea7c_0394 newer_fields (page_record 0 2)
 abbrev pub later_slot : List ℕ
 later_slot = summed_slot 0xe83c_e718 0x906d_1021 later_fields (page_record 0 0x21b9_61ac)
 
-pub newer_slot_is : encodedBytes newer_fields (page_record 0 2) (replicate 512 0) ≡ newer_slot
+pub newer_slot_is : (encode newer_fields (page_record 0 2) (replicate 512 0)).0 ≡ newer_slot
 newer_slot_is = summed_is 1 SlotIndex.B 2 0x588e_9174 4 (page_record 0 2) 0xe83c_e718 0xea7c_0394 none_refused.2 newer_sums.0 newer_sums.1
 
-pub later_slot_is : encodedBytes later_fields (page_record 0 0x21b9_61ac) (replicate 512 0) ≡ later_slot
+pub later_slot_is : (encode later_fields (page_record 0 0x21b9_61ac) (replicate 512 0)).0 ≡ later_slot
 later_slot_is =
     summed_is 1 SlotIndex.B 4 0xd61e_00d0 6 (page_record 0 0x21b9_61ac) 0xe83c_e718 0x906d_1021 later_refusal later_sums.0 later_sums.1
 
@@ -568,7 +567,7 @@ later_met k =
     met_by (later_write k) later_store_sound (unmarked_with later_page) (later_correct k) refl newer_slot later_slot newer_slot_is later_slot_is
 
 pub later_cuts : LaterMet
-unfolding cut headerSum headerBytes frontBytes identityBytes historyBytes page_header_bytes bytes le crc32c finalRemainder remainder digest reversed
+unfolding cut header_sum header_bytes page_header_bytes le crc32c finalRemainder remainder digest reversed
 later_cuts = Every.more (later_met 64 refl) (Every.more (later_met 133 refl) Every.none)
 
 -- ---- the hypotheses are the theorem's

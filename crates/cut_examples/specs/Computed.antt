@@ -1,12 +1,11 @@
 -- What is judged and read back after a cut, and how a slot is read.
-use Rattle.std.specs.Prelude.{◌≡◌, Bool, true, false, List, [], ◌∷◌, ℕ, replicate}
-use Rattle.codec.specs.Bytes.{flag}
+use Rattle.std.specs.Prelude.{◌≡◌, Bool, true, false, List, [], ◌∷◌, ℕ, replicate, Option, Some, None, Ok}
+use Rattle.slot.specs.declared.slot.SlotIndex.{SlotIndex}
 use Rattle.slot.specs.declared.slot.SlotStatus.{SlotStatus}
 use Rattle.slot.specs.declared.slot.HeaderFacts.{HeaderFacts}
-use Rattle.judge_frames.specs.Frames.{judged, judgedBytes}
-use Rattle.judge.specs.declared.SlotRead.{SlotRead}
-use Rattle.verdict.specs.declared.verdict.Heal.{Heal}
-use Rattle.verdict.specs.declared.verdict.Judged.{Judged}
+use Rattle.judge.specs.Frames.{judge_frames, frames_left}
+use Rattle.judge.specs.Same.{mark}
+use Rattle.judge.specs.declared.records.SlotRead.{SlotRead}
 use Rattle.cut.specs.Store.{Pair, slot_at, accepts, frames, slot_read}
 use Rattle.cut.specs.Cut.{Write, left, with_bytes, after, handed, PayloadIs}
 
@@ -20,33 +19,36 @@ pub data AllRead : List Pair → List (List ℕ) → Type 0 where
 
 -- After the cut of w the written slot is read so; the judge answers this heal and this clean mark, writable and not refused, and writes
 -- these verdicts, four bytes a pair: standing, winner, A, B; and these records are read back.
-pub record Computed (w : Write) (slot : SlotRead) (heal : Heal) (clean : Bool) (verdict : List ℕ) (records : List (List ℕ)) : Type 0 where
+pub record Computed (w : Write) (slot : SlotRead) (heal : Option (ℕ × SlotIndex)) (clean : Bool) (verdict : List ℕ) (records : List (List ℕ)) : Type 0 where
   pub read : slot_read (with_bytes (left w) (slot_at w.index w.pair)) ≡ slot
-  pub answer : judged (frames (after w)) (flag (handed w)) 12
-      ≡ Judged.Done (record { heal = heal; writable = true; clean = clean; refused = false })
-  pub written : judgedBytes (frames (after w)) (flag (handed w)) (replicate 12 0) ≡ verdict
+  pub answer : judge_frames (frames (after w)) (mark (handed w)) 12
+      ≡ Ok (record { heal = heal; writable = true; clean = clean; refused = false })
+  pub written : frames_left (frames (after w)) (mark (handed w)) (replicate 12 0) ≡ verdict
   pub back : AllRead (after w) records
 
 -- ---- how a slot is read
 
 abbrev pub blank_read : SlotRead
-blank_read = record { status = SlotStatus.Blank; facts = HeaderFacts.Nothing }
+blank_read = record { status = SlotStatus.Blank; facts = None }
 
 abbrev pub bad_magic : SlotRead
-bad_magic = record { status = SlotStatus.BadMagic; facts = HeaderFacts.Nothing }
+bad_magic = record { status = SlotStatus.BadMagic; facts = None }
 
 -- A header that fails its checksum, with the checksum stored in it.
 abbrev pub torn_header : (own : ℕ) → SlotRead
-torn_header own = record { status = SlotStatus.BadHeaderCrc; facts = HeaderFacts.Stored own }
+torn_header own = record { status = SlotStatus.BadHeaderCrc; facts = Some (record { stored_header_crc32c = own; numbered = None }) }
 
 -- Of a header that passes: its own checksum and the previous one.
 abbrev pub facts_with : (generation number own prev : ℕ) → HeaderFacts
 facts_with generation number own prev =
-    HeaderFacts.Numbered own (record { generation = generation; meta_seq = number; prev_header_crc32c = prev })
+    record {
+      stored_header_crc32c = own;
+      numbered = Some (record { generation = generation; meta_seq = number; prev_header_crc32c = prev });
+    }
 
 -- A payload that fails its checksum.
 abbrev pub torn_payload : (generation number own prev : ℕ) → SlotRead
-torn_payload generation number own prev = record { status = SlotStatus.BadPayloadCrc; facts = facts_with generation number own prev }
+torn_payload generation number own prev = record { status = SlotStatus.BadPayloadCrc; facts = Some (facts_with generation number own prev) }
 
 -- A Valid slot, with a payload of some length.
 abbrev pub valid_read : (generation number own prev length : ℕ) → SlotRead
@@ -65,5 +67,5 @@ valid_read generation number own prev length =
             payload_start = 128;
             payload_len = length;
           });
-      facts = facts_with generation number own prev;
+      facts = Some (facts_with generation number own prev);
     }

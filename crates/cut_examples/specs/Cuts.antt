@@ -1,9 +1,8 @@
 -- What is expected after each cut of the writes. The values follow from docs/FORMAT.md, "Slot status", "Header facts", "The store verdict"
 -- and "The winner's payload".
-use Rattle.std.specs.Prelude.{true, false, List, [], ◌∷◌, ℕ}
+use Rattle.std.specs.Prelude.{true, false, List, [], ◌∷◌, ℕ, Some, None}
 use Rattle.slot.specs.declared.slot.SlotIndex.{SlotIndex}
-use Rattle.judge.specs.declared.SlotRead.{SlotRead}
-use Rattle.verdict.specs.declared.verdict.Heal.{Heal}
+use Rattle.judge.specs.declared.records.SlotRead.{SlotRead}
 use Rattle.cut.specs.Store.{Every}
 use Rattle.cut_examples.specs.Stores.{volume_record, page_record}
 use Rattle.cut_examples.specs.Writes.{page_write, volume_write, second_write, later_write}
@@ -34,19 +33,19 @@ new_read = valid_read 3 5 0xd61e_00d0 0xe83c_e718 24
 
 pub record PageCuts : Type 0 where
   -- The old slot is Valid and older: Nothing.
-  pub page_0 : Computed (page_write 0) older_read Heal.Nothing false (0 ∷ 1 ∷ 0 ∷ 1 ∷ 0 ∷ 2 ∷ 1 ∷ 0 ∷ 0 ∷ 1 ∷ 0 ∷ 1 ∷ []) old_records
-  pub page_8 : Computed (page_write 8) older_read Heal.Nothing false (0 ∷ 1 ∷ 0 ∷ 1 ∷ 0 ∷ 2 ∷ 1 ∷ 0 ∷ 0 ∷ 1 ∷ 0 ∷ 1 ∷ []) old_records
+  pub page_0 : Computed (page_write 0) older_read None false (0 ∷ 1 ∷ 0 ∷ 1 ∷ 0 ∷ 2 ∷ 1 ∷ 0 ∷ 0 ∷ 1 ∷ 0 ∷ 1 ∷ []) old_records
+  pub page_8 : Computed (page_write 8) older_read None false (0 ∷ 1 ∷ 0 ∷ 1 ∷ 0 ∷ 2 ∷ 1 ∷ 0 ∷ 0 ∷ 1 ∷ 0 ∷ 1 ∷ []) old_records
   -- The header fails its checksum, and the stored one, of three new bytes and one old, is not B's previous one: InFlight.
-  pub page_11 : Computed (page_write 11) (torn_header 0x581e_00d0) (Heal.Slot 1 SlotIndex.A) false (0 ∷ 1 ∷ 0 ∷ 1 ∷ 0 ∷ 2 ∷ 3 ∷ 0 ∷ 0 ∷ 1 ∷ 0 ∷ 1 ∷ []) old_records
+  pub page_11 : Computed (page_write 11) (torn_header 0x581e_00d0) (Some (1, SlotIndex.A)) false (0 ∷ 1 ∷ 0 ∷ 1 ∷ 0 ∷ 2 ∷ 3 ∷ 0 ∷ 0 ∷ 1 ∷ 0 ∷ 1 ∷ []) old_records
   -- The stored one is the new one: InFlight.
-  pub page_64 : Computed (page_write 64) (torn_header 0xd61e_00d0) (Heal.Slot 1 SlotIndex.A) false (0 ∷ 1 ∷ 0 ∷ 1 ∷ 0 ∷ 2 ∷ 3 ∷ 0 ∷ 0 ∷ 1 ∷ 0 ∷ 1 ∷ []) old_records
+  pub page_64 : Computed (page_write 64) (torn_header 0xd61e_00d0) (Some (1, SlotIndex.A)) false (0 ∷ 1 ∷ 0 ∷ 1 ∷ 0 ∷ 2 ∷ 3 ∷ 0 ∷ 0 ∷ 1 ∷ 0 ∷ 1 ∷ []) old_records
   -- The payload fails its checksum, generation, previous checksum and number follow on: InFlight.
-  pub page_127 : Computed (page_write 127) torn_page (Heal.Slot 1 SlotIndex.A) false (0 ∷ 1 ∷ 0 ∷ 1 ∷ 0 ∷ 2 ∷ 3 ∷ 0 ∷ 0 ∷ 1 ∷ 0 ∷ 1 ∷ []) old_records
-  pub page_128 : Computed (page_write 128) torn_page (Heal.Slot 1 SlotIndex.A) false (0 ∷ 1 ∷ 0 ∷ 1 ∷ 0 ∷ 2 ∷ 3 ∷ 0 ∷ 0 ∷ 1 ∷ 0 ∷ 1 ∷ []) old_records
-  pub page_133 : Computed (page_write 133) torn_page (Heal.Slot 1 SlotIndex.A) false (0 ∷ 1 ∷ 0 ∷ 1 ∷ 0 ∷ 2 ∷ 3 ∷ 0 ∷ 0 ∷ 1 ∷ 0 ∷ 1 ∷ []) old_records
+  pub page_127 : Computed (page_write 127) torn_page (Some (1, SlotIndex.A)) false (0 ∷ 1 ∷ 0 ∷ 1 ∷ 0 ∷ 2 ∷ 3 ∷ 0 ∷ 0 ∷ 1 ∷ 0 ∷ 1 ∷ []) old_records
+  pub page_128 : Computed (page_write 128) torn_page (Some (1, SlotIndex.A)) false (0 ∷ 1 ∷ 0 ∷ 1 ∷ 0 ∷ 2 ∷ 3 ∷ 0 ∷ 0 ∷ 1 ∷ 0 ∷ 1 ∷ []) old_records
+  pub page_133 : Computed (page_write 133) torn_page (Some (1, SlotIndex.A)) false (0 ∷ 1 ∷ 0 ∷ 1 ∷ 0 ∷ 2 ∷ 3 ∷ 0 ∷ 0 ∷ 1 ∷ 0 ∷ 1 ∷ []) old_records
   -- The new slot is Valid and newer: Winner.
-  pub page_134 : Computed (page_write 134) new_read Heal.Nothing false (0 ∷ 1 ∷ 0 ∷ 1 ∷ 0 ∷ 1 ∷ 0 ∷ 1 ∷ 0 ∷ 1 ∷ 0 ∷ 1 ∷ []) new_page_records
-  pub page_512 : Computed (page_write 512) new_read Heal.Nothing false (0 ∷ 1 ∷ 0 ∷ 1 ∷ 0 ∷ 1 ∷ 0 ∷ 1 ∷ 0 ∷ 1 ∷ 0 ∷ 1 ∷ []) new_page_records
+  pub page_134 : Computed (page_write 134) new_read None false (0 ∷ 1 ∷ 0 ∷ 1 ∷ 0 ∷ 1 ∷ 0 ∷ 1 ∷ 0 ∷ 1 ∷ 0 ∷ 1 ∷ []) new_page_records
+  pub page_512 : Computed (page_write 512) new_read None false (0 ∷ 1 ∷ 0 ∷ 1 ∷ 0 ∷ 1 ∷ 0 ∷ 1 ∷ 0 ∷ 1 ∷ 0 ∷ 1 ∷ []) new_page_records
 
 -- ---- the volume record is written to slot B of pair 0
 
@@ -58,16 +57,16 @@ marked_read = valid_read 2 5 0x880c_0bb0 0x1d15_7c74 64
 
 pub record VolumeCuts : Type 0 where
   -- The old slot is Blank beside generation 1 in A: Nothing.
-  pub volume_0 : Computed (volume_write 0) blank_read Heal.Nothing false (0 ∷ 1 ∷ 0 ∷ 1 ∷ 0 ∷ 2 ∷ 1 ∷ 0 ∷ 0 ∷ 1 ∷ 0 ∷ 1 ∷ []) old_records
+  pub volume_0 : Computed (volume_write 0) blank_read None false (0 ∷ 1 ∷ 0 ∷ 1 ∷ 0 ∷ 2 ∷ 1 ∷ 0 ∷ 0 ∷ 1 ∷ 0 ∷ 1 ∷ []) old_records
   -- The header fails its checksum, and A of generation 1 has no predecessor: InFlight.
-  pub volume_8 : Computed (volume_write 8) (torn_header 0) (Heal.Slot 0 SlotIndex.B) false (0 ∷ 1 ∷ 0 ∷ 3 ∷ 0 ∷ 2 ∷ 1 ∷ 0 ∷ 0 ∷ 1 ∷ 0 ∷ 1 ∷ []) old_records
-  pub volume_11 : Computed (volume_write 11) (torn_header 0x000c_0bb0) (Heal.Slot 0 SlotIndex.B) false (0 ∷ 1 ∷ 0 ∷ 3 ∷ 0 ∷ 2 ∷ 1 ∷ 0 ∷ 0 ∷ 1 ∷ 0 ∷ 1 ∷ []) old_records
-  pub volume_64 : Computed (volume_write 64) (torn_header 0x880c_0bb0) (Heal.Slot 0 SlotIndex.B) false (0 ∷ 1 ∷ 0 ∷ 3 ∷ 0 ∷ 2 ∷ 1 ∷ 0 ∷ 0 ∷ 1 ∷ 0 ∷ 1 ∷ []) old_records
+  pub volume_8 : Computed (volume_write 8) (torn_header 0) (Some (0, SlotIndex.B)) false (0 ∷ 1 ∷ 0 ∷ 3 ∷ 0 ∷ 2 ∷ 1 ∷ 0 ∷ 0 ∷ 1 ∷ 0 ∷ 1 ∷ []) old_records
+  pub volume_11 : Computed (volume_write 11) (torn_header 0x000c_0bb0) (Some (0, SlotIndex.B)) false (0 ∷ 1 ∷ 0 ∷ 3 ∷ 0 ∷ 2 ∷ 1 ∷ 0 ∷ 0 ∷ 1 ∷ 0 ∷ 1 ∷ []) old_records
+  pub volume_64 : Computed (volume_write 64) (torn_header 0x880c_0bb0) (Some (0, SlotIndex.B)) false (0 ∷ 1 ∷ 0 ∷ 3 ∷ 0 ∷ 2 ∷ 1 ∷ 0 ∷ 0 ∷ 1 ∷ 0 ∷ 1 ∷ []) old_records
   -- The payload fails its checksum, generation, previous checksum and number follow on: InFlight.
-  pub volume_128 : Computed (volume_write 128) torn_volume (Heal.Slot 0 SlotIndex.B) false (0 ∷ 1 ∷ 0 ∷ 3 ∷ 0 ∷ 2 ∷ 1 ∷ 0 ∷ 0 ∷ 1 ∷ 0 ∷ 1 ∷ []) old_records
-  pub volume_191 : Computed (volume_write 191) torn_volume (Heal.Slot 0 SlotIndex.B) false (0 ∷ 1 ∷ 0 ∷ 3 ∷ 0 ∷ 2 ∷ 1 ∷ 0 ∷ 0 ∷ 1 ∷ 0 ∷ 1 ∷ []) old_records
+  pub volume_128 : Computed (volume_write 128) torn_volume (Some (0, SlotIndex.B)) false (0 ∷ 1 ∷ 0 ∷ 3 ∷ 0 ∷ 2 ∷ 1 ∷ 0 ∷ 0 ∷ 1 ∷ 0 ∷ 1 ∷ []) old_records
+  pub volume_191 : Computed (volume_write 191) torn_volume (Some (0, SlotIndex.B)) false (0 ∷ 1 ∷ 0 ∷ 3 ∷ 0 ∷ 2 ∷ 1 ∷ 0 ∷ 0 ∷ 1 ∷ 0 ∷ 1 ∷ []) old_records
   -- The new slot is Valid and newer: Winner. Its mark is handed to the judge and counts.
-  pub volume_192 : Computed (volume_write 192) marked_read Heal.Nothing true (0 ∷ 2 ∷ 1 ∷ 0 ∷ 0 ∷ 2 ∷ 1 ∷ 0 ∷ 0 ∷ 1 ∷ 0 ∷ 1 ∷ []) new_volume_records
+  pub volume_192 : Computed (volume_write 192) marked_read None true (0 ∷ 2 ∷ 1 ∷ 0 ∷ 0 ∷ 2 ∷ 1 ∷ 0 ∷ 0 ∷ 1 ∷ 0 ∷ 1 ∷ []) new_volume_records
 
 -- What the theorem leaves out: one to six bytes over the Blank slot are a broken magic, which the judge calls damage.
 abbrev pub damaged_volume : List ℕ
@@ -75,15 +74,15 @@ damaged_volume = 1 ∷ 1 ∷ 0 ∷ 4 ∷ 0 ∷ 2 ∷ 1 ∷ 0 ∷ 0 ∷ 1 ∷ 0 �
 
 abbrev pub MagicCuts : Type 0
 MagicCuts =
-    Every (λ (k : ℕ). Computed (volume_write k) bad_magic Heal.Nothing false damaged_volume old_records) (1 ∷ 2 ∷ 3 ∷ 4 ∷ 5 ∷ 6 ∷ [])
+    Every (λ (k : ℕ). Computed (volume_write k) bad_magic None false damaged_volume old_records) (1 ∷ 2 ∷ 3 ∷ 4 ∷ 5 ∷ 6 ∷ [])
 
 -- ---- pages are written to slots B
 
 pub record OtherCuts : Type 0 where
   -- To pair 2 over a Blank slot: the payload fails its checksum, generation, previous checksum and number follow on: InFlight.
-  pub second_140 : Computed (second_write 140) (torn_payload 2 5 0x24b0_a7e6 0x2c8c_2a3c) (Heal.Slot 2 SlotIndex.B) false (0 ∷ 1 ∷ 0 ∷ 1 ∷ 0 ∷ 2 ∷ 1 ∷ 0 ∷ 0 ∷ 1 ∷ 0 ∷ 3 ∷ []) old_records
+  pub second_140 : Computed (second_write 140) (torn_payload 2 5 0x24b0_a7e6 0x2c8c_2a3c) (Some (2, SlotIndex.B)) false (0 ∷ 1 ∷ 0 ∷ 1 ∷ 0 ∷ 2 ∷ 1 ∷ 0 ∷ 0 ∷ 1 ∷ 0 ∷ 3 ∷ []) old_records
   -- To pair 1 over generation 2, beside generation 3 in A. The header fails its checksum, and the stored one is A's previous one:
   -- OlderDamaged.
-  pub later_64 : Computed (later_write 64) (torn_header 0xe83c_e718) Heal.Nothing false (0 ∷ 1 ∷ 0 ∷ 1 ∷ 0 ∷ 1 ∷ 0 ∷ 2 ∷ 0 ∷ 1 ∷ 0 ∷ 1 ∷ []) new_page_records
+  pub later_64 : Computed (later_write 64) (torn_header 0xe83c_e718) None false (0 ∷ 1 ∷ 0 ∷ 1 ∷ 0 ∷ 1 ∷ 0 ∷ 2 ∷ 0 ∷ 1 ∷ 0 ∷ 1 ∷ []) new_page_records
   -- The payload fails its checksum: InFlight.
-  pub later_133 : Computed (later_write 133) (torn_payload 4 6 0xe83c_e718 0xd61e_00d0) (Heal.Slot 1 SlotIndex.B) false (0 ∷ 1 ∷ 0 ∷ 1 ∷ 0 ∷ 1 ∷ 0 ∷ 3 ∷ 0 ∷ 1 ∷ 0 ∷ 1 ∷ []) new_page_records
+  pub later_133 : Computed (later_write 133) (torn_payload 4 6 0xe83c_e718 0xd61e_00d0) (Some (1, SlotIndex.B)) false (0 ∷ 1 ∷ 0 ∷ 1 ∷ 0 ∷ 1 ∷ 0 ∷ 3 ∷ 0 ∷ 1 ∷ 0 ∷ 1 ∷ []) new_page_records

@@ -1,13 +1,13 @@
 -- Two stores of three pairs, the volume record and two pages, in slots of 512 bytes. The checksums that a slot names are written as numbers.
 use Rattle.std.specs.Prelude.{Bool, true, false, List, [], ◌∷◌, ◌++◌, ℕ, ◌+◌, ◌*◌, replicate}
-use Rattle.slot.specs.Status.{indexNumber}
-use Rattle.slot.specs.Write.{encodedBytes}
+use Rattle.slot.specs.Status.{index_number}
+use Rattle.slot.specs.Write.{encode}
 use Rattle.slot.specs.declared.slot.SlotIndex.{SlotIndex}
 use Rattle.slot.specs.declared.slot.SlotFields.{SlotFields}
 use Rattle.slot.specs.declared.slot.Expect.{Expect}
-use Rattle.frame.specs.declared.frame.SlotPart.{SlotPart}
-use Rattle.volume.specs.Volume.{volumeBytes}
-use Rattle.page_write.specs.Write.{headerBytes}
+use Rattle.judge.specs.declared.pairs.Version.{Version}
+use Rattle.meta.specs.Volume.{volume_bytes}
+use Rattle.meta.specs.Page.{header_bytes}
 use Rattle.cut.specs.Store.{Volume, Page, Slot, Pair}
 
 -- ---- records
@@ -15,7 +15,7 @@ use Rattle.cut.specs.Store.{Volume, Page, Slot, Pair}
 -- The volume record of a store with two pages, with its clean mark.
 abbrev pub volume_record : Bool → List ℕ
 volume_record mark =
-    volumeBytes
+    volume_bytes
     (record {
       base =
           record {
@@ -35,16 +35,14 @@ volume_record mark =
 
 -- A page with no entry.
 abbrev pub page_record : (index next : ℕ) → List ℕ
-page_record index next = headerBytes (record { page_index = index; next_seq = next; count = 0 })
+page_record index next = header_bytes (record { page_index = index; next_seq = next; count = 0 })
 
 -- ---- slots
 
 -- What a host left in the fields of a frame that are not given: the largest numbers.
-abbrev pub rest : SlotPart
+abbrev pub rest : Version
 rest =
     record {
-      code = 0;
-      facts = 0;
       generation = 0xffff_ffff_ffff_ffff;
       meta_seq = 0xffff_ffff_ffff_ffff;
       header_crc32c = 0xffff_ffff;
@@ -59,7 +57,7 @@ fields object index generation prev number =
       object_id = object;
       generation = generation;
       owner_generation = 1;
-      slot_offset = 1024 * object + 512 * indexNumber index;
+      slot_offset = 1024 * object + 512 * index_number index;
       slot_index = index;
       log2_slot_size = 9;
       prev_header_crc32c = prev;
@@ -83,7 +81,7 @@ read_with f =
 
 -- A slot as `encode` writes it.
 abbrev pub written_slot : SlotFields → List ℕ → Slot
-written_slot f payload = record { bytes = encodedBytes f payload (replicate 512 0); expect = read_with f; rest = rest }
+written_slot f payload = record { bytes = (encode f payload (replicate 512 0)).0; expect = read_with f; rest = rest }
 
 -- A Blank slot: behind its first 128 bytes it holds anything.
 abbrev pub blank_slot : (object : ℕ) → SlotIndex → Slot

@@ -2,7 +2,7 @@
 use Rattle.std.specs.Prelude.{◌≡◌, true, false, List, [], ◌∷◌, ℕ, ◌*◌, length, replicate}
 use Rattle.slot.specs.declared.slot.SlotIndex.{SlotIndex}
 use Rattle.slot.specs.declared.slot.SlotFields.{SlotFields}
-use Rattle.judge_frames.specs.Frames.{verdictWidth}
+use Rattle.judge.specs.Frames.{verdict_width}
 use Rattle.cut.specs.Store.{Every, Pair, store_mark, Sound}
 use Rattle.cut.specs.Cut.{Write, store, size, old, new, left, CutPoint, CorrectWrite, whole, Accident, handed, Survives}
 use Rattle.cut_examples.specs.Stores.{volume_record, page_record, fields, volume_pair, first_page, second_page, new_fields, later_page, first_store, later_store}
@@ -23,7 +23,7 @@ pub record IsMet (w : Write) : Type 0 where
 
 -- Nothing else is asked: what the theorem concludes follows.
 abbrev pub MetIsEnough : Type 0
-MetIsEnough = (w : Write) → IsMet w → (out : List ℕ) → length out ≡ length (store w) * verdictWidth → Survives w out
+MetIsEnough = (w : Write) → IsMet w → (out : List ℕ) → length out ≡ length (store w) * verdict_width → Survives w out
 
 -- ---- the writes
 

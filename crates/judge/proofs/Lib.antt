@@ -1,7 +1,6 @@
 pub mod NumberLaws
 pub mod PassLaws
 pub mod RowLaws
-pub mod CellLaws
 pub mod FrameLaws
 pub mod HealLaws
 pub mod PartLaws

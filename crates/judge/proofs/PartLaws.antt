@@ -5,51 +5,27 @@ use Rattle.std.specs.Int.{w32, w64, to_le_bytes}
 use Rattle.slot.specs.Status.{code}
 use Rattle.slot.specs.declared.slot.SlotStatus.{SlotStatus}
 use Rattle.slot.specs.declared.slot.HeaderFacts.{HeaderFacts}
-use Rattle.slot.specs.declared.slot.NumberedHeader.{NumberedHeader}
 use Rattle.judge.specs.declared.pairs.Version.{Version}
 use Rattle.judge.specs.declared.part.SlotPart.{SlotPart}
-use Rattle.judge.specs.Part.{part_of, part_bytes, part_at, part_shown, is_in_range, facts_number, header_number}
+use Rattle.judge.specs.Part.{part_of, part_bytes, part_at, part_shown, is_in_range, facts_number}
 use Rattle.judge.specs.Records.{shown_of}
 use Rattle.judge.specs.Same.{filled, NothingGiven, ChecksumGiven, VersionFits}
 
 -- ---- what it shows, and its range
 
 facts-small : (f : Option HeaderFacts) → leb (facts_number f) 2 ≡ true
-facts-small None = refl
-facts-small (Some f) = go f.numbered
-  where
-    go : (n : Option NumberedHeader) → leb (header_number n) 2 ≡ true
-    go None = refl
-    go (Some n) = refl
+facts-small f = grind arith
 
 abbrev Shows : Version → SlotStatus → Option HeaderFacts → Type 0
 Shows rest st f = (part_shown (filled rest (part_of st f)) ≡ shown_of st f) × (leb (code st) 12 ≡ true)
 
 shows : (rest : Version) (st : SlotStatus) (f : Option HeaderFacts) → Shows rest st f
 unfolding filled
-shows rest SlotStatus.ReadError f = (refl, refl)
-shows rest SlotStatus.BadLength f = (refl, refl)
-shows rest SlotStatus.Blank f = (refl, refl)
-shows rest SlotStatus.BadMagic f = (refl, refl)
 shows rest SlotStatus.BadHeaderCrc None = (refl, refl)
-shows rest SlotStatus.BadHeaderCrc (Some f) = go f.numbered
-  where
-    go : (n : Option NumberedHeader) → Shows rest SlotStatus.BadHeaderCrc (Some (record { stored_header_crc32c = f.stored_header_crc32c; numbered = n }))
-    go None = (refl, refl)
-    go (Some n) = (refl, refl)
-shows rest (SlotStatus.UnsupportedVersion major) f = (refl, refl)
-shows rest (SlotStatus.Incompatible flags) f = (refl, refl)
-shows rest SlotStatus.Malformed f = (refl, refl)
-shows rest SlotStatus.Foreign f = (refl, refl)
-shows rest SlotStatus.WrongObject f = (refl, refl)
-shows rest SlotStatus.Misplaced f = (refl, refl)
+shows rest SlotStatus.BadHeaderCrc (Some f) = (grind arith, refl)
 shows rest SlotStatus.BadPayloadCrc None = (refl, refl)
-shows rest SlotStatus.BadPayloadCrc (Some f) = go f.numbered
-  where
-    go : (n : Option NumberedHeader) → Shows rest SlotStatus.BadPayloadCrc (Some (record { stored_header_crc32c = f.stored_header_crc32c; numbered = n }))
-    go None = (refl, refl)
-    go (Some n) = (refl, refl)
-shows rest (SlotStatus.Valid i) f = (refl, refl)
+shows rest SlotStatus.BadPayloadCrc (Some f) = (grind arith, refl)
+shows rest _ f = (refl, refl)
 
 pub part-shows : (rest : Version) (st : SlotStatus) (f : Option HeaderFacts) → part_shown (filled rest (part_of st f)) ≡ shown_of st f
 part-shows rest st f = (shows rest st f).0

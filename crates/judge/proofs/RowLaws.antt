@@ -1,6 +1,5 @@
 -- What the passes leave of a row is its judgement, whatever the verdicts are kept in.
 use Rattle.std.proofs.Common.{◌≡◌, refl, ap, ◌∙◌, Bool, true, List, [], ◌∷◌, ◌++◌, ℕ, zero, suc, ◌+◌, ◌<◌, length, map, set, take, drop, arith, add-one, cond, false, eqb, leb, ◌≤◌, ◌&&◌, slice_get, Option, Some, None, Result, OnOk, OnErr, subst}
-use mir.Val.{bool_byte}
 use Rattle.std.specs.Option.{option_or}
 use Rattle.std.specs.List.{list_all}
 use Rattle.std.proofs.lemmas.List.{drop-set-lt, take_more_set}
@@ -17,6 +16,7 @@ use Rattle.judge.specs.Maxima.{no_maxima, note_all}
 use Rattle.judge.specs.Verdict.{in_flight}
 use Rattle.judge.specs.Judge.{demoted, pair_heal, first_verdicts, first_tally, volume_verdict, store_rules, last_verdicts, writable, row_rules, verdicts, judgement, error, unless, left}
 use Rattle.judge.specs.Passes.{verdicts_by, no_tally, tallies, heals}
+use Rattle.judge.specs.Same.{mark}
 use Rattle.judge.proofs.PassLaws.{verdicts-same, tally-same, heals-same}
 
 -- The highest numbers are answered where all values are in range.
@@ -145,6 +145,6 @@ map-same [] = refl
 map-same (x ∷ xs) = rw (map-same xs)
 
 -- A flag is in range and read back.
-pub flag-back : (set : Bool) → (leb (bool_byte set) 1 ≡ true) × (eqb (bool_byte set) 1 ≡ set)
+pub flag-back : (set : Bool) → (leb (mark set) 1 ≡ true) × (eqb (mark set) 1 ≡ set)
 flag-back true = (refl, refl)
 flag-back false = (refl, refl)

@@ -15,6 +15,7 @@ use Rattle.judge.specs.Records.{pair_read, records_error, judge_records, records
 use Rattle.judge.specs.Frames.{frame_width, verdict_width, pair_from, pair_in_range, pair_count, frames, row, row_bytes, frames_error, judge_frames, frames_left}
 use Rattle.judge.specs.Same.{filled, Framed, part_read, frame_of, frames_of, pairs_of, Fits, AllFit, mark, SameJudge, IgnoredFields}
 use Rattle.judge.proofs.PartLaws.{part-shows, part-in-range, filled-fits, length_part, part-read}
+use Rattle.judge.proofs.RowLaws.{flag-back}
 use Rattle.judge.proofs.FrameLaws.{same_test, whole}
 
 -- ---- a pair's frame
@@ -110,14 +111,10 @@ module _ (fs : List Framed) (fits : AllFit fs) where
 
 -- ---- both judges
 
-mark-back : (clean : Bool) → (leb (mark clean) 1 ≡ true) × (eqb (mark clean) 1 ≡ clean)
-mark-back true = (refl, refl)
-mark-back false = (refl, refl)
-
 same-error : (ps : List PairRead) (clean : Bool) (room : ℕ) → framed_error ps (mark clean) (room * verdict_width) ≡ records_error ps room
 same-error ps clean room =
     let rooms = same_test (room * verdict_width) (length ps * verdict_width) room (length ps) (λ is. omega (arith, is)) (λ is. omega (arith, is)) in
-    simp (rooms, (mark-back clean).0)
+    simp (rooms, (flag-back clean).0)
 
 length-verdicts : (vs : List PairVerdict) → length (row_bytes vs) ≡ length vs * verdict_width
 length-verdicts [] = refl
@@ -131,10 +128,10 @@ pub same_judge : SameJudge
 unfolding judge_records records_left
 same_judge =
     record {
-      answer = λ fs fits clean room. answer-is fs fits (mark clean) (room * verdict_width) ∙ simp (same-error (pairs_of fs) clean room, (mark-back clean).1);
+      answer = λ fs fits clean room. answer-is fs fits (mark clean) (room * verdict_width) ∙ simp (same-error (pairs_of fs) clean room, (flag-back clean).1);
       verdicts = λ fs fits clean out.
           let by_frames =
-          simp (length-verdicts out, same-error (pairs_of fs) clean (length out), (mark-back clean).1)
+          simp (length-verdicts out, same-error (pairs_of fs) clean (length out), (flag-back clean).1)
           at (verdicts-are fs fits (mark clean) (row_bytes out)) in
           by_frames ∙ left-bytes (records_error (pairs_of fs) (length out)) (verdicts (map pair_read (pairs_of fs)) clean) out;
     }

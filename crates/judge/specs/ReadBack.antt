@@ -49,8 +49,6 @@ cells_fit s n is = counted s n (eqb-true (length s) (n * verdict_width) is)
   where
     counted : (s : List ℕ) (n : ℕ) → length s ≡ n * verdict_width → length (verdict_cells s) ≡ n
     counted [] n is = omega arith
-    counted (x ∷ []) n is = absurd (omega arith)
-    counted (x ∷ y ∷ []) n is = absurd (omega arith)
-    counted (x ∷ y ∷ z ∷ []) n is = absurd (omega arith)
     counted (x ∷ y ∷ z ∷ w ∷ s) zero is = absurd (omega arith)
     counted (x ∷ y ∷ z ∷ w ∷ s) (suc n) is = let rest = counted s n (omega arith) in omega arith
+    counted _ n is = absurd (omega arith)

@@ -1,6 +1,6 @@
 -- Frames filled from pairs as they were read (docs/FORMAT.md, "Frames"): the judge over them answers as the judge over those pairs, whatever
 -- stands in the fields that are not given.
-use Rattle.std.specs.Prelude.{◌≡◌, Bool, ◌||◌, List, [], ◌∷◌, ◌++◌, ℕ, ◌*◌, ◌^◌, ◌<◌, ◌==◌, nat_le, if◌then◌else◌, map, flat_map, Option, Some, None, ⊤}
+use Rattle.std.specs.Prelude.{◌≡◌, Bool, true, false, ◌||◌, List, [], ◌∷◌, ◌++◌, ℕ, ◌*◌, ◌^◌, ◌<◌, ◌==◌, nat_le, if◌then◌else◌, map, flat_map, Option, Some, None, ⊤}
 use Rattle.slot.specs.declared.slot.HeaderFacts.{HeaderFacts}
 use Rattle.judge.specs.declared.pairs.Version.{Version}
 use Rattle.judge.specs.declared.part.SlotPart.{SlotPart}
@@ -85,7 +85,8 @@ AllFit (f ∷ fs) = Fits f × AllFit fs
 
 -- The mark as a byte.
 abbrev pub mark : Bool → ℕ
-mark clean = if clean then 1 else 0
+mark true = 1
+mark false = 0
 
 -- Both judges answer the same, where so many verdicts are lent, and leave the same verdicts.
 pub record SameJudge : Type 0 where

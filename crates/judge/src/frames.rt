@@ -8,6 +8,7 @@
 // | 1 | winner: 0 none, 1 A, 2 B |
 // | 2, 3 | A, B: 0 Winner, 1 Nothing, 2 OlderDamaged, 3 InFlight, 4 Damage |
 ghost use Rattle.std.specs.Prelude.{◌≡◌, ◌*◌, ◌==◌, length};
+ghost use Rattle.judge.specs.Part.{part_width, part_at};
 ghost use Rattle.judge.specs.Frames.{verdict_width, verdict_bytes, verdict_from, verdict_cells, pair_from, pair_in_range, judge_frames, frames_left};
 ghost use Rattle.judge.specs.Examples.{JudgeExamples};
 ghost use Rattle.judge.specs.ReadBack.{reads_back, cells_fit};
@@ -25,7 +26,7 @@ pub const FRAME: usize = 2 * PART;
 pub const VERDICT: usize = 4;
 
 impl PairVerdict {
-    // The verdict in bytes,
+    // The verdict in bytes.
     pub fn bytes(self) -> [u8; VERDICT]
         ensures { result ≡ verdict_bytes self }
     {
@@ -36,18 +37,14 @@ impl PairVerdict {
             self.b.as_u8(),
         ]
     }
+}
 
-    // and what bytes stand for.
-    pub fn from_bytes(bytes: [u8; VERDICT]) -> Self
-        ensures { result ≡ verdict_from bytes }
-    {
-        PairVerdict {
-            standing: Standing::from_u8(bytes[0]),
-            winner: choice_from(bytes[1]),
-            a: SlotVerdict::from_u8(bytes[2]),
-            b: SlotVerdict::from_u8(bytes[3]),
-        }
-    }
+// Both parts of a pair's frame.
+#[inline(always)]
+pub fn parts(frame: &[u8; FRAME]) -> (SlotPart, SlotPart)
+    ensures { result ≡ (part_at frame.now 0, part_at frame.now part_width) }
+{
+    (SlotPart::read(frame, 0), SlotPart::read(frame, PART))
 }
 
 impl ReadPair for [u8; FRAME] {
@@ -56,14 +53,16 @@ impl ReadPair for [u8; FRAME] {
     ghost within = { pair_in_range };
 
     fn is_in_range(&self) -> bool {
-        SlotPart::read(self, 0).is_in_range() && SlotPart::read(self, PART).is_in_range()
+        let (a, b) = parts(self);
+        a.is_in_range() && b.is_in_range()
     }
 
     #[inline(always)]
     fn pair(&self) -> Pair {
+        let (a, b) = parts(self);
         Pair {
-            a: SlotPart::read(self, 0).shown(),
-            b: SlotPart::read(self, PART).shown(),
+            a: a.shown(),
+            b: b.shown(),
         }
     }
 }
@@ -84,18 +83,23 @@ impl Verdicts for VerdictBytes<'_> {
 
     ghost place = { λ s. s.0.ghost_name };
 
-    #[tactic(auto, using(crate::proofs::CellLaws::whole_cells))]
+    #[tactic(auto, using(crate::proofs::FrameLaws::whole_cells))]
     fn fits(&self, pairs: usize) -> bool {
         self.0.len() % VERDICT == 0 && self.0.len() / VERDICT == pairs
     }
 
-    #[tactic(auto, using(crate::proofs::CellLaws::length_cells, crate::proofs::CellLaws::cells_read))]
+    #[tactic(auto, using(crate::proofs::FrameLaws::length_cells, crate::proofs::FrameLaws::cells_read))]
     fn verdict(&self, i: usize) -> PairVerdict {
         let at = i * VERDICT;
-        PairVerdict::from_bytes([self.0[at], self.0[at + 1], self.0[at + 2], self.0[at + 3]])
+        PairVerdict {
+            standing: Standing::from_u8(self.0[at]),
+            winner: choice_from(self.0[at + 1]),
+            a: SlotVerdict::from_u8(self.0[at + 2]),
+            b: SlotVerdict::from_u8(self.0[at + 3]),
+        }
     }
 
-    #[tactic(auto, using(crate::proofs::CellLaws::length_cells, crate::proofs::CellLaws::cells_put))]
+    #[tactic(auto, using(crate::proofs::FrameLaws::length_cells, crate::proofs::FrameLaws::cells_put))]
     fn put(&mut self, i: usize, v: PairVerdict) {
         let at = i * VERDICT;
         self.0[at..at + VERDICT].copy_from_slice(&v.bytes());

@@ -6,7 +6,7 @@ ghost use Rattle.judge.specs.Maxima.{noted, qualifies_by};
 use crate::pairs::{Pair, Shown};
 
 // The two highest numbers of the slots gone through, the same one twice where two slots hold it; 0 where there is none.
-#[derive(Clone, Copy)]
+#[derive(Clone, Copy, Default)]
 pub struct Maxima {
     pub first: u64,
     pub second: u64,

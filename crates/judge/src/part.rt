@@ -10,8 +10,7 @@
 // | 22 | 4 | previous checksum |
 //
 // Fields come from the Valid info under status 12, else from the facts; those not given are zero.
-ghost use Rattle.std.specs.Prelude.{◌≡◌, ◌+◌, ◌≤◌, length};
-ghost use Rattle.codec.specs.Bytes.{le32, le64};
+ghost use Rattle.std.specs.Prelude.{◌≡◌, ◌+◌, ◌≤◌, length, take, drop};
 ghost use Rattle.judge.specs.Part.{part_width, version_of_info, version_of_facts, facts_number, part_of, part_bytes, part_at, part_shown, is_in_range};
 
 use crate::pairs::{Shown, Version};
@@ -74,24 +73,14 @@ pub fn facts_number(facts: Option<HeaderFacts>) -> u8
     }
 }
 
-#[tactic(auto, unfolding(codec::specs::Bytes::le))]
-fn u32_at(frame: &[u8], at: usize) -> u32
-    requires { at + 4 ≤ length frame.now }
-    ensures { result ≡ le32 frame.now at }
+// The bytes at a place in a frame.
+fn array_at<const N: usize>(frame: &[u8], at: usize) -> [u8; N]
+    requires { at + N ≤ length frame.now }
+    ensures { result ≡ take N (drop at frame.now) }
 {
-    let mut bytes = [0u8; 4];
-    bytes.copy_from_slice(&frame[at..at + 4]);
-    u32::from_le_bytes(bytes)
-}
-
-#[tactic(auto, unfolding(codec::specs::Bytes::le))]
-fn u64_at(frame: &[u8], at: usize) -> u64
-    requires { at + 8 ≤ length frame.now }
-    ensures { result ≡ le64 frame.now at }
-{
-    let mut bytes = [0u8; 8];
-    bytes.copy_from_slice(&frame[at..at + 8]);
-    u64::from_le_bytes(bytes)
+    let mut bytes = [0u8; N];
+    bytes.copy_from_slice(&frame[at..at + N]);
+    bytes
 }
 
 impl SlotPart {
@@ -127,6 +116,7 @@ impl SlotPart {
     }
 
     // and read back from there.
+    #[tactic(auto, unfolding(codec::specs::Bytes::le))]
     pub(crate) fn read(frame: &[u8], at: usize) -> Self
         requires { at + part_width ≤ length frame.now }
         ensures { result ≡ part_at frame.now at }
@@ -135,10 +125,10 @@ impl SlotPart {
             code: frame[at],
             facts: frame[at + 1],
             version: Version {
-                generation: u64_at(frame, at + 2),
-                meta_seq: u64_at(frame, at + 10),
-                header_crc32c: u32_at(frame, at + 18),
-                prev_header_crc32c: u32_at(frame, at + 22),
+                generation: u64::from_le_bytes(array_at(frame, at + 2)),
+                meta_seq: u64::from_le_bytes(array_at(frame, at + 10)),
+                header_crc32c: u32::from_le_bytes(array_at(frame, at + 18)),
+                prev_header_crc32c: u32::from_le_bytes(array_at(frame, at + 22)),
             },
         }
     }

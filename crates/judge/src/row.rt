@@ -67,10 +67,7 @@ pub(crate) trait Verdicts {
 fn maxima<P: ReadPair>(pairs: &[P]) -> Option<Maxima>
     ensures { result ≡ if list_all P.within pairs.now then Some (note_all no_maxima (slots (map P.shown pairs.now))) else None }
 {
-    let mut m = Maxima {
-        first: 0,
-        second: 0,
-    };
+    let mut m = Maxima::default();
     for p in pairs {
         if !p.is_in_range() {
             return None;
@@ -88,12 +85,7 @@ fn first_pass<P: ReadPair, V: Verdicts>(pairs: &[P], m: Maxima, out: &mut V) -> 
     ensures cells { V.cells out.new ≡ map V.cell (verdicts_by m (map P.shown pairs.now)) }
     ensures place { V.place out.new ≡ V.place out.old }
 {
-    let mut t = Tally {
-        candidates: 0,
-        page_had_candidate: false,
-        troubled: false,
-        refused: false,
-    };
+    let mut t = Tally::default();
     for (i, p) in pairs.iter().enumerate() {
         let case = p.pair().case();
         let v = PairVerdict::first(m, case);
@@ -121,7 +113,7 @@ fn second_pass<V: Verdicts>(
         let v = out.verdict(i);
         if v.in_flight() {
             let last = v.demoted_if(rules.demotes(i == 0));
-            heal = last.heal(i).or(heal);
+            heal = last.heal_or(i, heal);
             out.put(i, last);
         }
     }

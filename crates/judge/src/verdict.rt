@@ -4,6 +4,7 @@
 // A write in flight is healed if it is the only candidate that qualifies. A page's is not healed under a clean mark, nor in a store
 // where any pair is not Confirmed; the volume record's is healed unless a pair is refused. One that is not healed is Damage.
 ghost use Rattle.std.specs.Prelude.{◌≡◌, ◌<◌};
+ghost use Rattle.std.specs.Option.{option_or};
 ghost use Rattle.judge.specs.Maxima.{by_maxima};
 ghost use Rattle.judge.specs.Verdict.{slot_verdict, winner_beside, no_winner, pair_verdict, in_flight};
 ghost use Rattle.judge.specs.Judge.{demoted, demotes, store_rules, writable, pair_heal, HealNames};
@@ -54,7 +55,7 @@ pub struct PairVerdict {
 }
 
 // What the first pass counts.
-#[derive(Clone, Copy)]
+#[derive(Clone, Copy, Default)]
 pub struct Tally {
     // Candidates that qualify.
     pub candidates: usize,
@@ -323,16 +324,20 @@ impl PairVerdict {
         }
     }
 
-    // The slot in flight, as that of the pair with this number.
-    pub fn heal(self, pair: usize) -> Option<(usize, SlotIndex)>
-        ensures { result ≡ pair_heal pair self }
+    // The slot in flight of the pair with this number, or what was found before.
+    pub fn heal_or(
+        self,
+        pair: usize,
+        before: Option<(usize, SlotIndex)>,
+    ) -> Option<(usize, SlotIndex)>
+        ensures { result ≡ option_or (pair_heal pair self) before }
     {
         if self.b == SlotVerdict::InFlight {
             Some((pair, SlotIndex::B))
         } else if self.a == SlotVerdict::InFlight {
             Some((pair, SlotIndex::A))
         } else {
-            None
+            before
         }
     }
 }

@@ -1,7 +1,9 @@
 -- Bytes are UTF-8 by the grammar of RFC 3629 if and only if they are the encoding of a run of scalar values.
-use Rattle.std.proofs.Common.{◌≡◌, refl, sym, ap, ap₂, ◌∙◌, subst, Bool, true, false, lt-ltb, le-ltb, le-leb, ◌&&◌, List, [], ◌∷◌, ◌++◌, ℕ, zero, suc, ◌≤◌, arith, eq-eqb, ne_eqb, eqb-true, eqb, length, take, drop, length-append, take-append-drop}
+use Rattle.std.proofs.Common.{Result, Ok, Err, ◌≡◌, refl, sym, ap, ap₂, ◌∙◌, subst, Bool, true, false, lt-ltb, le-ltb, le-leb, ◌&&◌, List, [], ◌∷◌, ◌++◌, ℕ, zero, suc, ◌≤◌, arith, eq-eqb, ne_eqb, eqb-true, eqb, length, take, drop, length-append, take-append-drop}
 use Rattle.std.proofs.Math.Bool.{and-eq-true_iff, or-true}
 use Rattle.std.specs.Char.{encode_utf8, IsScalar}
+use Rattle.std.specs.Prelude.{MatchResult}
+use Rattle.std.specs.Result.{is_ok}
 use Rattle.std.specs.Str.{IsUtf8, encode_utf8_all, all_scalars}
 use lib.Utf8.{scalar, scalar_cases}
 use mathlib.Core.Logic.{⊎_elim}
@@ -102,3 +104,8 @@ not_utf8 s not = go (utf8 s) refl
     go true is =
         let encoded = utf8_encoded s is in
         absurd (not (encoded.values, (scalars_std encoded.scalars, all_std encoded.values ∙ sym encoded.is)))
+
+pub told : {T E : Type 0} (P : T → Type 0) (Q : E → Type 0) (s : List ℕ) (read : Result T E)
+    → MatchResult read (λ t. P t × IsUtf8 s) (λ e. ¬ (IsUtf8 s) × Q e) → is_ok read ≡ utf8 s
+told P Q s (Ok t) cases = sym (utf8_from_std s cases.1)
+told P Q s (Err e) cases = sym (not_utf8 s cases.0)

@@ -1,4 +1,5 @@
--- The encoding of a scalar value in RFC 3629, section 3: its bits from the highest on, six in each byte but the first.
+-- The encoding of a scalar value (docs/FORMAT.md, "Names") in RFC 3629, section 3: its bits from the highest on, six in each byte but the
+-- first.
 use Rattle.std.specs.Prelude.{◌≡◌, true, List, [], ◌∷◌, ◌++◌, ℕ, ◌+◌, ◌/◌, ◌%◌, ◌≤◌, ◌<◌, nat_lt, if◌then◌else◌}
 use Rattle.meta.specs.Utf8.{utf8}
 

@@ -1,5 +1,5 @@
--- UTF-8 by the grammar of RFC 3629, section 4. That it gives exactly the encodings of runs of scalar values, section 3's definition, is
--- a law (GrammarEncodes of Scalar.antt).
+-- UTF-8 (docs/FORMAT.md, "Names") by the grammar of RFC 3629, section 4. That it gives exactly the encodings of runs of scalar values,
+-- section 3's definition, is a law (GrammarEncodes of Scalar.antt).
 use Rattle.std.specs.Prelude.{Bool, true, false, ◌&&◌, ◌||◌, ◌==◌, List, [], ◌∷◌, ℕ, zero, suc, nat_le, length, drop}
 use Rattle.std.specs.List.{list_any}
 

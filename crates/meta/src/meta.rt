@@ -300,10 +300,7 @@ fn text(bytes: &[u8]) -> &str
 fn is_utf8(bytes: &[u8]) -> bool
     ensures { result ≡ utf8 bytes.now }
 {
-    match str::from_utf8(bytes) {
-        Ok(_) => true,
-        Err(_) => false,
-    }
+    str::from_utf8(bytes).is_ok()
 }
 
 /// Whether bytes are a name.

@@ -65,8 +65,12 @@ pub const PAGE_HEADER_LEN: usize = 24;
 pub const ENTRY2_LEN: usize = 96;
 /// Pages a container may have.
 pub const MAX_TABLE_PAGES: u32 = 1 << 30;
-/// Must-understand entry flags this version knows: provisioned unwritten, growth capped.
-pub const KNOWN_FLAGS: u8 = 3;
+/// Entry flag: provisioned unwritten.
+pub const FLAG_UNWRITTEN: u8 = 1 << 0;
+/// Entry flag: growth limited to the capacity.
+pub const FLAG_CAPPED: u8 = 1 << 1;
+/// Must-understand entry flags this version knows.
+pub const KNOWN_FLAGS: u8 = FLAG_UNWRITTEN | FLAG_CAPPED;
 
 /// The size of a block or a table slot. A `log2` outside 12 to 16 counts as the nearer end.
 #[tactic(auto, unfolding(crate::specs::Block::block_size))]
@@ -147,6 +151,7 @@ impl Tail {
 
     /// The rules of these fields beside a base that passed its own.
     #[tactic(auto, unfolding(crate::specs::Volume::check_tail), using(crate::proofs::BlockLaws::block_range))]
+    #[inline(always)]
     fn check(&self, base: &VolumeMeta) -> Result<(), MetaError>
         ensures { result ≡ check_tail base.now self.now }
     {
@@ -384,6 +389,7 @@ impl Entry2 {
 impl RawEntry {
     /// The entry in the first 96 bytes.
     #[tactic(auto, unfolding(crate::specs::Entry::entry_at))]
+    #[inline(always)]
     pub fn read(bytes: &[u8]) -> Result<Self, MetaError>
         ensures { result ≡ read_entry bytes.now }
     {
@@ -657,11 +663,7 @@ impl RawEntry {
         let block = block_size(lim.log2_block);
         let start = (self.span_start - self.span_start % block).max(lim.table_end);
         let end = whole_up(self.span_end, block).min(lim.file_len);
-        if start < end {
-            Some((start, end))
-        } else {
-            None
-        }
+        (start < end).then_some((start, end))
     }
 }
 

@@ -1,54 +1,20 @@
--- A stored number that is there; an array as a loop fills it; a byte of a row of verdicts; and what frames have that are no refused row.
-use Rattle.std.proofs.Common.{◌≡◌, refl, ap, Bool, true, false, cond, List, [], ◌∷◌, ◌++◌, ℕ, zero, suc, ◌+◌, ◌*◌, ◌/◌, ◌%◌, ◌≤◌, ◌<◌, not-suc-le-zero, le_of_suc-le-suc, add-one, arith, eqb, leb, length, take, drop, set, get_or, drop-cons, eqb-true, leb-true}
-use Rattle.codec.specs.Bytes.{le}
-use Rattle.codec.specs.Cursor.{read}
-use Rattle.codec.proofs.CursorLaws.{step-there}
-use Rattle.cases.specs.Number.{or_zero}
-use Rattle.verdict.specs.declared.verdict.PairVerdict.{PairVerdict}
-use Rattle.verdict.specs.Verdict.{verdictBytes}
-use Rattle.judge_frames.specs.Frames.{frameWidth, verdictWidth}
-use Rattle.row.specs.Judged.{noRow}
+-- One verdict more is written, and one less is left.
+use Rattle.std.proofs.Common.{◌≡◌, ◌<◌, sym, ap, add-one, get_or, drop-cons, ◌∙◌, List, ◌++◌, ℕ, ◌+◌, ◌*◌, ◌≤◌, arith, append_assoc, length, take, drop, length-append, length-take-le, length-take, length-drop, take_at}
+use Rattle.judge.specs.declared.verdict.PairVerdict.{PairVerdict}
+use Rattle.judge.specs.Frames.{verdict_bytes, row_bytes}
 
-pub there : (w : ℕ) (s : List ℕ) (at : ℕ) → at + w ≤ length s → or_zero (read w s at) ≡ le w s at
-there w s at fits = ap or_zero (step-there 6 (le w s at) s at w fits)
+pub written : (out : List ℕ) (i : ℕ) (bytes rest : List ℕ) → length bytes ≡ 4 → i * 4 + 4 ≤ length out
+    → take ((i + 1) * 4) (take (i * 4) out ++ (bytes ++ drop 4 (drop (i * 4) out))) ++ rest ≡ take (i * 4) out ++ (bytes ++ rest)
+written out i bytes rest four fits =
+    let front : length (take (i * 4) out ++ bytes) ≡ (i + 1) * 4 = length-append (take (i * 4) out) bytes ∙ omega (arith, length-take-le (i * 4) out, four) in
+    ap (λ (t : List ℕ). take ((i + 1) * 4) t ++ rest) (sym (append_assoc (take (i * 4) out) bytes (drop 4 (drop (i * 4) out))))
+    ∙ ap (λ (t : List ℕ). t ++ rest) (take_at (take (i * 4) out ++ bytes) (drop 4 (drop (i * 4) out)) ((i + 1) * 4) front)
+    ∙ append_assoc (take (i * 4) out) bytes rest
 
-module _ {X : Type 0} where
-  filled : (l : List X) (i : ℕ) (x : X) (rest : List X) → i < length l → take (suc i) (set l i x) ++ rest ≡ take i l ++ x ∷ rest
-  filled [] i x rest in-l = absurd (not-suc-le-zero in-l)
-  filled (y ∷ l) zero x rest in-l = refl
-  filled (y ∷ l) (suc i) x rest in-l = ap (λ (r : List X). y ∷ r) (filled l i x rest (le_of_suc-le-suc in-l))
+pub length-written : (out : List ℕ) (i : ℕ) (bytes : List ℕ) → length bytes ≡ 4 → i * 4 + 4 ≤ length out
+    → length (take (i * 4) out ++ (bytes ++ drop 4 (drop (i * 4) out))) ≡ length out
+length-written out i bytes four fits = simp (length-append, length-drop, length-take) (omega (arith, four))
 
-  -- One element more is written, and one less is left.
-  pub filled-step : (l : List X) (i : ℕ) (x : X) (rest : List X) → i < length l → take (i + 1) (set l i x) ++ rest ≡ take i l ++ x ∷ rest
-  filled-step l i x rest in-l = rw (add-one i) (filled l i x rest in-l)
-
-  pub drop-next : (l : List X) (i : ℕ) (d : X) → i < length l → drop i l ≡ get_or l i d ∷ drop (i + 1) l
-  drop-next l i d in-l = rw (add-one i) (drop-cons l i d in-l)
-
--- A byte of a row of verdicts is one of its verdict's four.
-pub verdict-byte : (vs : List PairVerdict) (i : ℕ) (d : PairVerdict) → i < length vs * verdictWidth
-    → get_or (verdictBytes vs) i 0 ≡ get_or (verdictBytes (get_or vs (i / verdictWidth) d ∷ [])) (i % verdictWidth) 0
-verdict-byte [] i d in-vs = absurd (omega arith)
-verdict-byte (v ∷ vs) zero d in-vs = refl
-verdict-byte (v ∷ vs) (suc zero) d in-vs = refl
-verdict-byte (v ∷ vs) (suc (suc zero)) d in-vs = refl
-verdict-byte (v ∷ vs) (suc (suc (suc zero))) d in-vs = refl
-verdict-byte (v ∷ vs) (suc (suc (suc (suc i)))) d in-vs =
-    let next : (suc (suc (suc (suc i)))) / verdictWidth ≡ suc (i / verdictWidth) = omega arith in
-    let same : (suc (suc (suc (suc i)))) % verdictWidth ≡ i % verdictWidth = omega arith in
-    rw (next, same) (verdict-byte vs i d (omega arith))
-
-pub is_row : (len room : ℕ) → noRow len room ≡ 0 → (len / frameWidth ≤ 5) × (len ≡ len / frameWidth * frameWidth) × (room ≤ 5)
-unfolding noRow
-is_row len room passed = go (eqb (len % frameWidth) 0) (leb len (5 * frameWidth)) (leb room 5) refl refl refl passed
-  where
-    go : (whole few fits : Bool) → eqb (len % frameWidth) 0 ≡ whole → leb len (5 * frameWidth) ≡ few → leb room 5 ≡ fits
-        → ◌≡◌ {A = ℕ} (cond whole (cond few (cond fits 0 10) 10) 10) 0
-        → (len / frameWidth ≤ 5) × (len ≡ len / frameWidth * frameWidth) × (room ≤ 5)
-    go false few fits multiple at_most in-room passed = absurd (omega arith)
-    go true false fits multiple at_most in-room passed = absurd (omega arith)
-    go true true false multiple at_most in-room passed = absurd (omega arith)
-    go true true true multiple at_most in-room passed =
-        let frames = eqb-true (len % frameWidth) 0 multiple in
-        let pairs = leb-true len (5 * frameWidth) at_most in
-        (omega arith, omega arith, leb-true room 5 in-room)
+pub next-bytes : (vs : List PairVerdict) (i : ℕ) (d : PairVerdict) (bytes : List ℕ) → i < length vs → bytes ≡ verdict_bytes (get_or vs i d)
+    → row_bytes (drop i vs) ≡ bytes ++ row_bytes (drop (i + 1) vs)
+next-bytes vs i d bytes below is = rw (is, add-one) (ap row_bytes (drop-cons vs i d below))

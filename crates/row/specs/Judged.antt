@@ -1,39 +1,38 @@
--- What the judge over a row (docs/FORMAT.md, "The store verdict") answers for the pairs that frames stand for, and the verdicts that it
--- leaves in an array of five.
-use Rattle.std.specs.Prelude.{Bool, cond, List, ◌++◌, ℕ, ◌*◌, ◌%◌, eqb, leb, length, take, drop, replicate}
-use Rattle.verdict.specs.declared.verdict.PairVerdict.{PairVerdict}
-use Rattle.verdict.specs.declared.verdict.Standing.{Standing}
-use Rattle.verdict.specs.Verdict.{noWinner, verdictBytes}
-use Rattle.judge.specs.declared.PairRead.{PairRead}
-use Rattle.verdict.specs.declared.verdict.Judged.{Judged}
-use Rattle.judge_frames.specs.Frames.{frameWidth, pairs, row}
-use Rattle.judge.specs.Row.{rowJudged, rowVerdicts}
-use Rattle.row.specs.declared.RowJudged.{RowJudged}
-use Rattle.row.specs.declared.RowAnswer.{RowAnswer}
-use Rattle.row.specs.Records.{records}
-
--- The verdicts before the judge is called.
-abbrev pub fresh : List PairVerdict
-fresh = replicate 5 (noWinner Standing.Lost)
-
--- The judge is lent the first verdicts of an array; the others are kept.
-unfoldable pub judgedFirst : List PairRead → Bool → ℕ → List PairVerdict → RowJudged
-judgedFirst ps clean room vs =
-    record { judged = rowJudged ps clean room; verdicts = rowVerdicts ps clean (take room vs) ++ drop room vs }
-
-abbrev pub bytes_of : RowJudged → RowAnswer
-bytes_of r = record { judged = r.judged; verdicts = verdictBytes r.verdicts }
-
--- 10 for no whole frames, for more than five, and for room for more than five verdicts; else 0.
-unfoldable pub noRow : ℕ → ℕ → ℕ
-noRow len room = cond (eqb (len % frameWidth) 0) (cond (leb len (5 * frameWidth)) (cond (leb room 5) 0 10) 10) 10
+-- What the judge over a row (docs/FORMAT.md, "The store verdict") answers for the pairs that frames stand for, and what it leaves of lent
+-- pairs and verdicts, of which it may use the first.
+use Rattle.std.specs.Prelude.{Bool, not, ◌||◌, List, ◌++◌, ℕ, ◌*◌, ◌%◌, ◌==◌, nat_lt, if◌then◌else◌, length, map, take, drop, Result, Err}
+use Rattle.judge.specs.declared.verdict.PairVerdict.{PairVerdict}
+use Rattle.judge.specs.declared.verdict.Judgement.{Judgement}
+use Rattle.judge.specs.declared.verdict.JudgeError.{JudgeError}
+use Rattle.judge.specs.declared.records.PairRead.{PairRead}
+use Rattle.judge.specs.Frames.{frame_width, verdict_width, pair_count, frames, row_bytes}
+use Rattle.judge.specs.Records.{judge_records, records_left as judged_left}
+use Rattle.row.specs.Records.{pair_of}
 
 -- The pairs of the frames.
-abbrev pub row_of : List ℕ → List PairRead
-row_of s = records (row (pairs s) s)
+abbrev pub records : List ℕ → List PairRead
+records s = map pair_of (frames s)
 
-unfoldable pub rowAnswer : List ℕ → Bool → ℕ → RowAnswer
-rowAnswer s clean room =
-    cond (eqb (noRow (length s) room) 0)
-    (bytes_of (judgedFirst (row_of s) clean room fresh))
-    (bytes_of (record { judged = Judged.Refusal (noRow (length s) room); verdicts = fresh }))
+-- No whole frames, or more pairs or verdicts than were lent.
+abbrev pub is_no_row : List ℕ → ℕ → ℕ → ℕ → Bool
+is_no_row s room pairs verdicts = not (length s % frame_width == 0) || nat_lt pairs (pair_count s) || nat_lt verdicts room
+
+-- The answer, where so many pairs and verdicts are lent,
+unfoldable pub judge_row : List ℕ → Bool → ℕ → ℕ → ℕ → Result Judgement JudgeError
+judge_row s clean room pairs verdicts =
+    if is_no_row s room pairs verdicts then Err JudgeError.OutOfRange else judge_records (records s) clean room
+
+-- the lent pairs afterwards,
+unfoldable pub records_left : List ℕ → ℕ → List PairRead → ℕ → List PairRead
+records_left s room pairs verdicts =
+    if is_no_row s room (length pairs) verdicts then pairs else records s ++ drop (pair_count s) pairs
+
+-- and the lent verdicts: those behind the room are kept.
+unfoldable pub verdicts_left : List ℕ → Bool → ℕ → ℕ → List PairVerdict → List PairVerdict
+verdicts_left s clean room pairs verdicts =
+    if is_no_row s room pairs (length verdicts) then verdicts
+    else judged_left (records s) clean (take room verdicts) ++ drop room verdicts
+
+-- The verdicts' bytes, over as many.
+unfoldable pub bytes_left : List PairVerdict → List ℕ → List ℕ
+bytes_left vs out = if length out == length vs * verdict_width then row_bytes vs else out

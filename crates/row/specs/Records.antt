@@ -1,62 +1,53 @@
 -- What record a frame (docs/FORMAT.md, "Frames") stands for: the statuses by their numbers, the info of a Valid slot and the
 -- header's facts from the part's fields.
-use Rattle.std.specs.Prelude.{cond, List, [], ◌∷◌, eqb}
+use Rattle.std.specs.Prelude.{ℕ, List, ◌==◌, if◌then◌else◌, unwrap_or, Option, Some, None}
+use Rattle.slot.specs.Numbers.{status_of}
 use Rattle.slot.specs.declared.slot.HeaderFacts.{HeaderFacts}
 use Rattle.slot.specs.declared.slot.SlotInfo.{SlotInfo}
 use Rattle.slot.specs.declared.slot.SlotStatus.{SlotStatus}
-use Rattle.frame.specs.declared.frame.SlotPart.{SlotPart}
-use Rattle.candidate.specs.declared.pairs.PairPart.{PairPart}
-use Rattle.judge.specs.declared.SlotRead.{SlotRead}
-use Rattle.judge.specs.declared.PairRead.{PairRead}
+use Rattle.judge.specs.declared.pairs.Version.{Version}
+use Rattle.judge.specs.declared.part.SlotPart.{SlotPart}
+use Rattle.judge.specs.declared.records.SlotRead.{SlotRead}
+use Rattle.judge.specs.declared.records.PairRead.{PairRead}
+use Rattle.judge.specs.Part.{part_width, part_at}
 
 -- What the judge does not look at is 0.
-abbrev pub infoOf : SlotPart → SlotInfo
-infoOf p =
+abbrev pub info_of : Version → SlotInfo
+info_of v =
     record {
-      generation = p.generation;
+      generation = v.generation;
       owner_generation = 0;
-      header_crc32c = p.header_crc32c;
-      prev_header_crc32c = p.prev_header_crc32c;
+      header_crc32c = v.header_crc32c;
+      prev_header_crc32c = v.prev_header_crc32c;
       ro_compat_flags = 0;
       compat_flags = 0;
-      meta_seq = p.meta_seq;
+      meta_seq = v.meta_seq;
       payload_start = 0;
       payload_len = 0;
     }
 
 -- A number that is no status stands for a slot that was not read.
-unfoldable pub statusOf : SlotPart → SlotStatus
-statusOf p =
-    cond (eqb p.code 1) SlotStatus.BadLength
-    (cond (eqb p.code 2) SlotStatus.Blank
-    (cond (eqb p.code 3) SlotStatus.BadMagic
-    (cond (eqb p.code 4) SlotStatus.BadHeaderCrc
-    (cond (eqb p.code 5) (SlotStatus.UnsupportedVersion 0)
-    (cond (eqb p.code 6) (SlotStatus.Incompatible 0)
-    (cond (eqb p.code 7) SlotStatus.Malformed
-    (cond (eqb p.code 8) SlotStatus.Foreign
-    (cond (eqb p.code 9) SlotStatus.WrongObject
-    (cond (eqb p.code 10) SlotStatus.Misplaced
-    (cond (eqb p.code 11) SlotStatus.BadPayloadCrc
-    (cond (eqb p.code 12) (SlotStatus.Valid (infoOf p)) SlotStatus.ReadError)))))))))))
+abbrev pub status_from : SlotPart → SlotStatus
+status_from p = unwrap_or (status_of p.code (info_of p.version)) SlotStatus.ReadError
 
-unfoldable pub facts_of : SlotPart → HeaderFacts
-facts_of p =
-    cond (eqb p.facts 1) (HeaderFacts.Stored p.header_crc32c)
-    (cond (eqb p.facts 2)
-    (HeaderFacts.Numbered p.header_crc32c (record {
-      generation = p.generation;
-      meta_seq = p.meta_seq;
-      prev_header_crc32c = p.prev_header_crc32c;
-    }))
-    HeaderFacts.Nothing)
+abbrev pub facts_from : SlotPart → Option HeaderFacts
+facts_from p =
+    if p.facts == 1 then Some (record { stored_header_crc32c = p.version.header_crc32c; numbered = None })
+    else if p.facts == 2 then
+        Some
+        (record {
+          stored_header_crc32c = p.version.header_crc32c;
+          numbered =
+              Some (record {
+                generation = p.version.generation;
+                meta_seq = p.version.meta_seq;
+                prev_header_crc32c = p.version.prev_header_crc32c;
+              });
+        })
+    else None
 
 abbrev pub slot_of : SlotPart → SlotRead
-slot_of p = record { status = statusOf p; facts = facts_of p }
+slot_of p = record { status = status_from p; facts = facts_from p }
 
-abbrev pub pair_of : PairPart → PairRead
-pair_of p = record { a = slot_of p.a; b = slot_of p.b }
-
-abbrev pub records : List PairPart → List PairRead
-records [] = []
-records (p ∷ ps) = pair_of p ∷ records ps
+abbrev pub pair_of : List ℕ → PairRead
+pair_of s = record { a = slot_of (part_at s 0); b = slot_of (part_at s part_width) }

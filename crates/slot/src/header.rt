@@ -33,6 +33,7 @@ pub struct Header {
 
 // The header at the start of `slot`, if it is there.
 #[tactic(auto, unfolding(crate::specs::Header::header_read))]
+#[inline(always)]
 pub fn read_header(slot: &[u8]) -> Option<Header>
     ensures { result ≡ header_read slot.now }
 {

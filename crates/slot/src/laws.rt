@@ -3,31 +3,31 @@ ghost use Rattle.slot.specs.Header.{HeaderLayout};
 ghost use Rattle.slot.specs.Laws.{PaddingLaw, StatusRange, RoundTrip};
 ghost use Rattle.slot.specs.Table.{Table};
 
-// The header read step by step is the header by its offsets.
+// Does nothing: its contract is that the header read step by step is the header by its offsets.
 #[tactic(auto, using(crate::proofs::HeaderLaws::header_layout))]
 pub fn layout_law()
     ensures { HeaderLayout }
 {}
 
-// The bytes behind the payload do not count.
+// Does nothing: its contract is that the bytes behind the payload do not count.
 #[tactic(auto, using(crate::proofs::PaddingLaws::padding_law))]
 pub fn padding_law()
     ensures { PaddingLaw }
 {}
 
-// A slot's status is 1 to 12.
+// Does nothing: its contract is that a slot's status is 1 to 12.
 #[tactic(auto, using(crate::proofs::StatusLaws::status_range))]
 pub fn status_law()
     ensures { StatusRange }
 {}
 
-// What `encode` wrote is Valid with its fields and its payload, whatever stands behind it.
+// Does nothing: its contract is that what `encode` wrote is Valid with its fields and its payload, whatever stands behind it.
 #[tactic(auto, using(crate::proofs::RoundTripLaws::round_trip))]
 pub fn round_trip_law()
     ensures { RoundTrip }
 {}
 
-// The places of the header's fields, and the numbers of statuses, refusals and indexes.
+// Does nothing: its contract is a table of the places of the header's fields, and of the numbers of statuses, refusals and indexes.
 #[tactic(auto, using(crate::proofs::TableLaws::table))]
 pub fn table_law()
     ensures { Table }

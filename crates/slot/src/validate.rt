@@ -61,6 +61,7 @@ pub fn read_slot(slot: &[u8], e: &Expect) -> (SlotStatus, Option<HeaderFacts>)
 impl Header {
     // Every check up to the payload's CRC, in their order. `Err` carries the first status that fails.
     #[tactic(auto, using(crate::proofs::Room::passes_within), unfolding(crate::specs::Read::check))]
+    #[inline(always)]
     fn check(&self, slot: &[u8], e: &Expect) -> Result<(), SlotStatus>
         requires { 128 ≤ length slot.now }
         ensures { result ≡ check slot.now self.now e.now }

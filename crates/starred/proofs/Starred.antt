@@ -2,18 +2,16 @@
 use Rattle.std.proofs.Common.{refl}
 use Rattle.codec.specs.Bytes.{le}
 use Rattle.codec.specs.Crc32c.{crc32c, finalRemainder, remainder, digest, reversed}
-use Rattle.slot.specs.Write.{encodeRefusal}
-use Rattle.candidate.specs.Pairs.{numbered, badPayload, blank, oppositeSlot, unsupported, pairCase}
-use Rattle.verdict.specs.Judge.{firstVerdicts, firstTally, cleanMark, storeRules, demoted, pairHeal, rowRules, verdicts, judgeRow}
-use Rattle.region.specs.Block.{clamp, blockSize, entriesPerPage}
-use Rattle.name.specs.Name.{nameOk, named}
-use Rattle.name.specs.Utf8.{utf8, utf8Octets}
-use Rattle.volume.specs.Volume.{table_end, fileCheck}
-use Rattle.page.specs.Read.{decodePage}
+use Rattle.slot.specs.Write.{encode_check}
+use Rattle.judge.specs.Judge.{first_verdicts, first_tally, row_rules, verdicts, judgement}
+use Rattle.meta.specs.Block.{block_size, entries_per_page}
+use Rattle.meta.specs.Utf8.{utf8, utf8_octets}
+use Rattle.meta.specs.Name.{is_name, name_of}
+use Rattle.meta.specs.Page.{header_at, entries, decode_page}
 use Rattle.starred.specs.Starred.{Starred, Capacities}
 
 pub starred : Starred
-unfolding crc32c finalRemainder remainder digest reversed entriesPerPage blockSize clamp encodeRefusal oppositeSlot blank badPayload numbered unsupported pairCase firstVerdicts firstTally cleanMark storeRules demoted pairHeal rowRules verdicts judgeRow decodePage le named nameOk utf8 utf8Octets table_end fileCheck
+unfolding crc32c finalRemainder remainder digest reversed entries_per_page block_size encode_check first_verdicts first_tally row_rules verdicts judgement decode_page header_at entries le name_of is_name utf8 utf8_octets
 starred =
     record {
       no_bytes = refl;
@@ -44,5 +42,5 @@ starred =
     }
 
 pub capacities : Capacities
-unfolding entriesPerPage blockSize clamp
+unfolding entries_per_page block_size
 capacities = (refl, refl, refl, refl, refl)

@@ -1,27 +1,28 @@
 -- Examples at the edges of slots and pages, said of the definitions that the contracts cite (docs/FORMAT.md has their rules); and the
 -- capacities of a page.
-use Rattle.std.specs.Prelude.{◌≡◌, true, false, List, [], ◌∷◌, ℕ, replicate}
+use Rattle.std.specs.Prelude.{◌≡◌, true, false, List, [], ◌∷◌, ℕ, replicate, Option, Some, None, Result, Ok, Err}
 use Rattle.codec.specs.Crc32c.{crc32c}
-use Rattle.codec.specs.Outcome.{given, refusal}
-use Rattle.slot.specs.Write.{encodeRefusal}
+use Rattle.slot.specs.Status.{error_number}
+use Rattle.slot.specs.Write.{encode_check}
 use Rattle.slot.specs.declared.slot.SlotIndex.{SlotIndex}
 use Rattle.slot.specs.declared.slot.SlotFields.{SlotFields}
-use Rattle.frame.specs.declared.frame.SlotPart.{SlotPart}
-use Rattle.candidate.specs.Pairs.{oppositeSlot}
-use Rattle.candidate.specs.Numbers.{qualifies}
-use Rattle.verdict.specs.Verdict.{winnerBeside}
-use Rattle.verdict.specs.Judge.{verdicts, judgeRow}
-use Rattle.candidate.specs.declared.pairs.PairPart.{PairPart}
-use Rattle.candidate.specs.declared.pairs.MetaSeq.{MetaSeq}
-use Rattle.candidate.specs.declared.pairs.Opposite.{Opposite}
-use Rattle.verdict.specs.declared.verdict.SlotVerdict.{SlotVerdict}
-use Rattle.verdict.specs.declared.verdict.PairVerdict.{PairVerdict}
-use Rattle.verdict.specs.declared.verdict.Heal.{Heal}
-use Rattle.region.specs.Block.{entriesPerPage}
-use Rattle.name.specs.Name.{named}
-use Rattle.volume.specs.Volume.{table_end, fileCheck}
-use Rattle.volume.specs.declared.meta2.VolumeMeta2.{VolumeMeta2}
-use Rattle.page.specs.Read.{decodePage, page}
+use Rattle.judge.specs.Part.{part_shown}
+use Rattle.judge.specs.Pairs.{opposite}
+use Rattle.judge.specs.Numbers.{qualifies}
+use Rattle.judge.specs.Verdict.{winner_beside}
+use Rattle.judge.specs.Judge.{verdicts, judgement}
+use Rattle.judge.specs.declared.pairs.Version.{Version}
+use Rattle.judge.specs.declared.pairs.Shown.{Shown}
+use Rattle.judge.specs.declared.pairs.Pair.{Pair}
+use Rattle.judge.specs.declared.pairs.Opposite.{Opposite}
+use Rattle.judge.specs.declared.verdict.SlotVerdict.{SlotVerdict}
+use Rattle.judge.specs.declared.verdict.PairVerdict.{PairVerdict}
+use Rattle.meta.specs.Error.{number}
+use Rattle.meta.specs.Block.{entries_per_page}
+use Rattle.meta.specs.Name.{named}
+use Rattle.meta.specs.Volume.{table_end, check_file_len}
+use Rattle.meta.specs.Page.{decode_page}
+use Rattle.meta.specs.declared.meta2.VolumeMeta2.{VolumeMeta2}
 
 -- ---- what the examples speak of
 
@@ -42,27 +43,39 @@ fields log2 format generation number =
       compat_flags = 0;
     }
 
-abbrev pub valid : ℕ → ℕ → SlotPart
-valid generation number =
-    record { code = 12; facts = 0; generation = generation; meta_seq = number; header_crc32c = 7; prev_header_crc32c = 0 }
+-- The number of a refusal, 0 where nothing is refused.
+abbrev pub refusal : {A E : Type 0} → (E → ℕ) → Result A E → ℕ
+refusal number (Ok value) = 0
+refusal number (Err error) = number error
 
-abbrev pub blank_slot : SlotPart
-blank_slot = record { code = 2; facts = 0; generation = 0; meta_seq = 0; header_crc32c = 0; prev_header_crc32c = 0 }
+abbrev pub version : ℕ → ℕ → Version
+version generation number = record { generation = generation; meta_seq = number; header_crc32c = 7; prev_header_crc32c = 0 }
+
+-- What the judge is told of slots, by the codes of their statuses.
+abbrev pub valid : ℕ → ℕ → Shown
+valid generation number = part_shown (record { code = 12; facts = 0; version = version generation number })
+
+abbrev pub blank_slot : Shown
+blank_slot =
+    part_shown
+    (record { code = 2; facts = 0; version = record { generation = 0; meta_seq = 0; header_crc32c = 0; prev_header_crc32c = 0 } })
 
 -- A write after a valid slot of generation 1, its payload torn.
-abbrev pub torn : ℕ → SlotPart
-torn number = record { code = 11; facts = 2; generation = 2; meta_seq = number; header_crc32c = 8; prev_header_crc32c = 7 }
+abbrev pub torn : ℕ → Shown
+torn number =
+    part_shown
+    (record { code = 11; facts = 2; version = record { generation = 2; meta_seq = number; header_crc32c = 8; prev_header_crc32c = 7 } })
 
-abbrev pub pair : SlotPart → SlotPart → PairPart
+abbrev pub pair : Shown → Shown → Pair
 pair a b = record { a = a; b = b }
 
 -- A volume record with a number, and a page beside a torn write with another one.
-abbrev pub numbered_row : ℕ → ℕ → List PairPart
+abbrev pub numbered_row : ℕ → ℕ → List Pair
 numbered_row highest candidate = pair (valid 1 highest) blank_slot ∷ pair (valid 1 1) (torn candidate) ∷ []
 
 -- What the judge answers over a row without a clean mark: the verdicts, and the slot to heal.
-abbrev pub judged : List PairPart → List PairVerdict × Heal
-judged row = (verdicts row false, (judgeRow row false).heal)
+abbrev pub judged : List Pair → List PairVerdict × Option (ℕ × SlotIndex)
+judged row = (verdicts row false, (judgement row false).heal)
 
 -- Both log2 12, one page.
 abbrev pub volume : VolumeMeta2
@@ -90,44 +103,44 @@ pub record Starred : Type 0 where
   -- No bytes: checksum 0.
   pub no_bytes : crc32c [] ≡ 0
   -- Page capacity at log2 11 is 41, at 17 is 681.
-  pub capacity_at_11 : entriesPerPage 11 ≡ 41
-  pub capacity_at_17 : entriesPerPage 17 ≡ 681
+  pub capacity_at_11 : entries_per_page 11 ≡ 41
+  pub capacity_at_17 : entries_per_page 17 ≡ 681
   -- Slot of 512: payload 384 fits, 385 gives 3.
-  pub payload_384 : encodeRefusal (fields 9 2 1 1) (replicate 384 0) 512 ≡ 0
-  pub payload_385 : encodeRefusal (fields 9 2 1 1) (replicate 385 0) 512 ≡ 3
+  pub payload_384 : refusal error_number (encode_check (fields 9 2 1 1) (replicate 384 0) 512) ≡ 0
+  pub payload_385 : refusal error_number (encode_check (fields 9 2 1 1) (replicate 385 0) 512) ≡ 3
   -- Log2 8 with generation 0: 1.
-  pub log2_8 : encodeRefusal (fields 8 2 0 1) [] 256 ≡ 1
+  pub log2_8 : refusal error_number (encode_check (fields 8 2 0 1) [] 256) ≡ 1
   -- Format 1 with number 1: 5.
-  pub format_1 : encodeRefusal (fields 9 1 1 1) [] 512 ≡ 5
+  pub format_1 : refusal error_number (encode_check (fields 9 1 1 1) [] 512) ≡ 5
   -- A generation 1, B Blank: Nothing. B generation 1, A Blank: Damage. A generation 2, B Blank: Damage.
-  pub a_first : oppositeSlot SlotIndex.A (valid 1 1) blank_slot ≡ Opposite.Nothing
-  pub b_first : oppositeSlot SlotIndex.B (valid 1 1) blank_slot ≡ Opposite.Damage
-  pub a_second : oppositeSlot SlotIndex.A (valid 2 1) blank_slot ≡ Opposite.Damage
-  pub a_first_judged : judged (pair (valid 1 1) blank_slot ∷ []) ≡ (winnerBeside SlotIndex.A SlotVerdict.Nothing ∷ [], Heal.Nothing)
-  pub b_first_judged : judged (pair blank_slot (valid 1 1) ∷ []) ≡ (winnerBeside SlotIndex.B SlotVerdict.Damage ∷ [], Heal.Nothing)
-  pub a_second_judged : judged (pair (valid 2 1) blank_slot ∷ []) ≡ (winnerBeside SlotIndex.A SlotVerdict.Damage ∷ [], Heal.Nothing)
+  pub a_first : opposite SlotIndex.A (version 1 1) blank_slot ≡ Opposite.Nothing
+  pub b_first : opposite SlotIndex.B (version 1 1) blank_slot ≡ Opposite.Damage
+  pub a_second : opposite SlotIndex.A (version 2 1) blank_slot ≡ Opposite.Damage
+  pub a_first_judged : judged (pair (valid 1 1) blank_slot ∷ []) ≡ (winner_beside SlotIndex.A SlotVerdict.Nothing ∷ [], None)
+  pub b_first_judged : judged (pair blank_slot (valid 1 1) ∷ []) ≡ (winner_beside SlotIndex.B SlotVerdict.Damage ∷ [], None)
+  pub a_second_judged : judged (pair (valid 2 1) blank_slot ∷ []) ≡ (winner_beside SlotIndex.A SlotVerdict.Damage ∷ [], None)
   -- Numbers 4 and candidate 5: qualifies; 5 and 5, or 4 and 6: not.
-  pub candidate : oppositeSlot SlotIndex.A (valid 1 4) (torn 5) ≡ Opposite.Candidate (MetaSeq.Number 5)
-  pub numbers_4_5 : qualifies (valid 1 4 ∷ torn 5 ∷ []) 1 (MetaSeq.Number 5) ≡ true
-  pub numbers_5_5 : qualifies (valid 1 5 ∷ torn 5 ∷ []) 1 (MetaSeq.Number 5) ≡ false
-  pub numbers_4_6 : qualifies (valid 1 4 ∷ torn 6 ∷ []) 1 (MetaSeq.Number 6) ≡ false
+  pub candidate : opposite SlotIndex.A (version 1 4) (torn 5) ≡ Opposite.Candidate (Some 5)
+  pub numbers_4_5 : qualifies (valid 1 4 ∷ torn 5 ∷ []) 1 (Some 5) ≡ true
+  pub numbers_5_5 : qualifies (valid 1 5 ∷ torn 5 ∷ []) 1 (Some 5) ≡ false
+  pub numbers_4_6 : qualifies (valid 1 4 ∷ torn 6 ∷ []) 1 (Some 6) ≡ false
   pub judged_4_5 : judged (numbered_row 4 5)
-      ≡ (winnerBeside SlotIndex.A SlotVerdict.Nothing ∷ winnerBeside SlotIndex.A SlotVerdict.InFlight ∷ [], Heal.Slot 1 SlotIndex.B)
+      ≡ (winner_beside SlotIndex.A SlotVerdict.Nothing ∷ winner_beside SlotIndex.A SlotVerdict.InFlight ∷ [], Some (1, SlotIndex.B))
   pub judged_5_5 : judged (numbered_row 5 5)
-      ≡ (winnerBeside SlotIndex.A SlotVerdict.Nothing ∷ winnerBeside SlotIndex.A SlotVerdict.Damage ∷ [], Heal.Nothing)
+      ≡ (winner_beside SlotIndex.A SlotVerdict.Nothing ∷ winner_beside SlotIndex.A SlotVerdict.Damage ∷ [], None)
   pub judged_4_6 : judged (numbered_row 4 6)
-      ≡ (winnerBeside SlotIndex.A SlotVerdict.Nothing ∷ winnerBeside SlotIndex.A SlotVerdict.Damage ∷ [], Heal.Nothing)
+      ≡ (winner_beside SlotIndex.A SlotVerdict.Nothing ∷ winner_beside SlotIndex.A SlotVerdict.Damage ∷ [], None)
   -- 24 zero bytes as page 0: accepted.
-  pub empty_page : decodePage (replicate 24 0) 0 41 ≡ given (page (record { page_index = 0; next_seq = 0; count = 0 }))
+  pub empty_page : decode_page (replicate 24 0) 0 41 ≡ Ok (record { page_index = 0; next_seq = 0; count = 0 })
   -- Name of 24 letters: accepted; C0 80 (hexadecimal): 35.
-  pub letters_24 : named (replicate 24 0x61) ≡ given (record { bytes = replicate 24 0x61; len = 24 })
-  pub c0_80 : named (0xC0 ∷ 0x80 ∷ []) ≡ refusal 35
+  pub letters_24 : named (replicate 24 0x61) ≡ Ok (record { bytes = replicate 24 0x61; len = 24 })
+  pub c0_80 : refusal number (named (0xC0 ∷ 0x80 ∷ [])) ≡ 35
   -- Both log2 12, one page: end 16,384; file of 16,383: 26.
-  pub end_16384 : table_end volume ≡ given 16384
-  pub file_16383 : fileCheck volume 16383 ≡ refusal 26
+  pub end_16384 : table_end volume ≡ Ok 16384
+  pub file_16383 : refusal number (check_file_len volume 16383) ≡ 26
 
 -- Entries per page for log2 12 to 16 (docs/FORMAT.md, "The volume record").
 abbrev pub Capacities : Type 0
 Capacities =
-    (entriesPerPage 12 ≡ 41) × (entriesPerPage 13 ≡ 83) × (entriesPerPage 14 ≡ 169) × (entriesPerPage 15 ≡ 339)
-    × (entriesPerPage 16 ≡ 681)
+    (entries_per_page 12 ≡ 41) × (entries_per_page 13 ≡ 83) × (entries_per_page 14 ≡ 169) × (entries_per_page 15 ≡ 339)
+    × (entries_per_page 16 ≡ 681)

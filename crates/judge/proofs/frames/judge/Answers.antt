@@ -4,8 +4,7 @@ use Rattle.judge.specs.Judge.{verdicts}
 use Rattle.judge.specs.declared.verdict.PairVerdict.{PairVerdict}
 use Rattle.judge.specs.Frames.{frame_width, row, row_bytes, frames_error, judge_frames, frames_left}
 use Rattle.judge.proofs.RowLaws.{left-after}
-use Rattle.judge.proofs.CellLaws.{bytes-done}
-use Rattle.judge.proofs.FrameLaws.{ragged, whole, room}
+use Rattle.judge.proofs.FrameLaws.{ragged, whole, room, bytes-done}
 use Rattle.judge.proofs.frames.judge.Goals as goal
 
 pub returns-then-not-is_empty-clause-value : goal.returns-then-not-is_empty-clause-value

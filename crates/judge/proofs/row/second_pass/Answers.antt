@@ -24,7 +24,7 @@ loop-i-preserved g c =
           w.put.ensures.cells in
           let left-heal = rw step.0 at l.invariant.heal in
           let left-cells = rw step.0 at l.invariant.written in record {
-            heal = rw (w.heal-is, w.out-is, ne_eqb (l.i + 1) 0 later, w.or-heal.ensures, w.heal.ensures, w.demoted_if-last.ensures, w.demotes.ensures) left-heal;
+            heal = rw (w.heal-is, w.out-is, ne_eqb (l.i + 1) 0 later, w.heal_or-heal.ensures, w.demoted_if-last.ensures, w.demotes.ensures) left-heal;
             room = rw (w.out-is, w.put.ensures.cells, length-set) l.invariant.room;
             written = rw (w.out-is, ne_eqb (l.i + 1) 0 later, step.1, append_assoc, w.demoted_if-last.ensures, w.demotes.ensures) left-cells;
             hold =

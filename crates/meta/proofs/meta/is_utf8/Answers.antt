@@ -1,9 +1,6 @@
-use Rattle.std.proofs.Common.{sym}
-use Rattle.meta.proofs.Utf8Laws.{utf8_from_std, not_utf8}
+use Rattle.std.proofs.Common.{◌∙◌}
+use Rattle.meta.proofs.Utf8Laws.{told}
 use Rattle.meta.proofs.meta.is_utf8.Goals as goal
 
-pub returns-in-Ok : goal.returns-in-Ok
-returns-in-Ok c = sym (utf8_from_std _ c.in-Ok.ensures.cases.1)
-
-pub returns-in-Err : goal.returns-in-Err
-returns-in-Err c = sym (not_utf8 _ c.in-Err.ensures.cases.0)
+pub returns : goal.returns
+returns c = c.is_ok.ensures.value ∙ told _ _ c.args.bytes.now c.from_utf8.result c.from_utf8.ensures.cases

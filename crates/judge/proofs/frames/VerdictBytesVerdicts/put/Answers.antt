@@ -1,6 +1,6 @@
 -- The bytes of one verdict are written.
 use Rattle.std.proofs.Common.{◌≡◌, ◌+◌, ◌-◌, ◌*◌, arith}
-use Rattle.judge.proofs.CellLaws.{cells_put}
+use Rattle.judge.proofs.FrameLaws.{cells_put}
 use Rattle.judge.proofs.frames.VerdictBytesVerdicts.put.Goals as goal
 
 pub returns-clause-cells : goal.returns-clause-cells

@@ -1,5 +1,0 @@
-// Layer 3: region names.
-#![tactic(auto)]
-
-pub mod meta;
-pub mod utf8;

@@ -1,4 +1,0 @@
-// Layer 3: table pages as they are read.
-#![tactic(auto)]
-
-pub mod meta2;

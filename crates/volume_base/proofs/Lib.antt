@@ -1,2 +1,0 @@
-pub mod DecodeLaws
-pub mod BaseLaws
