@@ -40,10 +40,6 @@ module _ (p : Pair) (s : List ℕ) where
   kept_bytes SlotIndex.A = refl
   kept_bytes SlotIndex.B = refl
 
-  put_status : (index : SlotIndex) → status (slot_at index (with_slot index s p)) ≡ validate s (slot_at index p).expect
-  put_status SlotIndex.A = refl
-  put_status SlotIndex.B = refl
-
   put_bytes : (index : SlotIndex) → (slot_at index (with_slot index s p)).bytes ≡ s
   put_bytes SlotIndex.A = refl
   put_bytes SlotIndex.B = refl
