@@ -58,7 +58,7 @@ fn second_pass(pairs: &[[u8; FRAME]], m: Maxima, rules: StoreRules) -> Option<(u
     let mut heal = None;
     for (i, frame) in pairs.iter().enumerate() {
         let v = PairVerdict::first(m, frame::shown(frame).case());
-        heal = v.demoted_if(rules.demotes(i == 0)).heal(i).or(heal);
+        heal = v.demoted_if(rules.demotes(i == 0)).heal_or(i, heal);
     }
     heal
 }

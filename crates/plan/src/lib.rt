@@ -6,6 +6,7 @@
 pub mod error;
 mod frame;
 pub mod heal;
+pub mod laws;
 pub mod next;
 pub mod numbers;
 pub mod write;
