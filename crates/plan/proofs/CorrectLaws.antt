@@ -157,12 +157,11 @@ survives_cuts given i a b owner compat payload buffer written answer owner_fits 
     planned_is_correct before p behind (pair_sound.newer, pair_sound.info) plan owner compat payload buffer k (numbered_pairs all) (sound_won p pair_sound)
     here owner_fits compat_fits bytes accepts_it fits taken.size in
     let same : new w ≡ written =
-    ap (λ (e : Expect). (encode (fields_of plan e owner compat) payload buffer).0) same_expect ∙ sym known.bytes in
-    (
+    ap (λ (e : Expect). (encode (fields_of plan e owner compat) payload buffer).0) same_expect ∙ sym known.bytes in (
       same,
       cut_theorem w sound unmarked correct point
-      (λ accident. no_accident (subst (λ (bytes : List ℕ). Accident (left w) (old w) bytes payload) same accident))
-      verdicts verdicts_room,
+          (λ accident. no_accident (subst (λ (bytes : List ℕ). Accident (left w) (old w) bytes payload) same accident))
+          verdicts verdicts_room,
     )
   where
     expect_is : (index : SlotIndex) → (slot_at index p).expect ≡ by_index index a b

@@ -25,14 +25,14 @@ followed r = followed_by (winner_info r)
 abbrev pub plan_at : SlotIndex → ℕ × ℕ → ℕ → Result Plan PlanError
 plan_at index record_before most =
     if nat_lt record_before.0 (2 ^ 64 - 1) then
-      if nat_lt most (2 ^ 64 - 1) then
-        Ok (record {
-          index = index;
-          generation = record_before.0 + 1;
-          prev_header_crc32c = record_before.1;
-          meta_seq = most + 1;
-        })
-      else Err PlanError.UsedUp
+    if nat_lt most (2 ^ 64 - 1) then
+    Ok (record {
+      index = index;
+      generation = record_before.0 + 1;
+      prev_header_crc32c = record_before.1;
+      meta_seq = most + 1;
+    })
+    else Err PlanError.UsedUp
     else Err PlanError.UsedUp
 
 abbrev pub some_plan : {A : Type 0} → Result A PlanError → Result (Option A) PlanError

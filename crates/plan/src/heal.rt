@@ -71,7 +71,10 @@ fn named(pairs: &[[u8; FRAME]], m: Maxima, clean: bool) -> Option<(usize, SlotIn
     let Some(volume) = pairs.first() else {
         return None;
     };
-    let rules = first_pass(pairs, m).rules(clean, PairVerdict::first(m, frame::shown(volume).case()));
+    let rules = first_pass(pairs, m).rules(
+        clean,
+        PairVerdict::first(m, frame::shown(volume).case()),
+    );
     second_pass(pairs, m, rules)
 }
 
@@ -131,6 +134,10 @@ pub fn plan_heal(frames: &[u8], clean: u8) -> Result<Option<(usize, Plan)>, Plan
     let Some(frame) = pairs.get(pair) else {
         return Err(PlanError::NoPair);
     };
-    let plan = plan_at(index, &frame::report(frame), highest_other(pairs, pair, index))?;
+    let plan = plan_at(
+        index,
+        &frame::report(frame),
+        highest_other(pairs, pair, index),
+    )?;
     Ok(Some((pair, plan)))
 }

@@ -51,7 +51,11 @@ pub fn next_write(
         SlotIndex::A => a,
         SlotIndex::B => b,
     };
-    match encode(slot, &fields_of(plan, e, owner_generation, compat_flags), payload) {
+    match encode(
+        slot,
+        &fields_of(plan, e, owner_generation, compat_flags),
+        payload,
+    ) {
         Ok(crc) => Ok(Some((plan, crc))),
         Err(error) => Err(PlanError::Encode(error)),
     }
