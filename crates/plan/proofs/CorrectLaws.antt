@@ -1,24 +1,23 @@
 -- A planned write is a correct write, and so the cut theorem is about it.
-use Rattle.std.proofs.Common.{◌≡◌, refl, sym, ap, ap₂, subst, ◌∙◌, true, List, [], ◌∷◌, ◌++◌, ℕ, ◌+◌, ◌-◌, ◌*◌, ◌^◌, ◌≤◌, ◌<◌, arith, length, Option, Some, None, Result, Ok, Err}
+use Rattle.std.proofs.Common.{◌≡◌, refl, sym, ap, ap₂, subst, ◌∙◌, List, ◌∷◌, ◌++◌, ℕ, ◌+◌, ◌^◌, ◌≤◌, ◌<◌, arith, length, Option, Some, None, Result, Ok, Err}
 use Rattle.std.proofs.lemmas.Option.{some_pair_parts}
 use Rattle.codec.specs.Bytes.{AllBytes}
 use Rattle.slot.specs.Status.{other}
 use Rattle.slot.specs.Write.{encode_check, encoded as encode_by, encode}
 use Rattle.slot.specs.declared.slot.SlotIndex.{SlotIndex}
-use Rattle.slot.specs.declared.slot.SlotInfo.{SlotInfo}
 use Rattle.slot.specs.declared.slot.SlotFields.{SlotFields}
 use Rattle.slot.specs.declared.slot.EncodeError.{EncodeError}
 use Rattle.slot.specs.declared.slot.Expect.{Expect}
 use Rattle.slot.proofs.Room.{power_room}
-use Rattle.slot.proofs.RoundTripLaws.{Accepted, accepted}
-use Rattle.pair.specs.Pair.{winner_info, next_write}
+use Rattle.slot.proofs.RoundTripLaws.{accepted}
+use Rattle.pair.specs.Pair.{next_write}
 use Rattle.judge.specs.Numbers.{slots, highest}
 use Rattle.judge.specs.Verdict.{by_index}
-use Rattle.judge.specs.Frames.{verdict_width, row}
+use Rattle.judge.specs.Frames.{row}
 use Rattle.judge.specs.Same.{AllFit, frame_of}
 use Rattle.judge.specs.declared.pairs.Pair.{Pair as ShownPair}
-use Rattle.cut.specs.Store.{Every, Pair, accepts, slot_at, report, framed_pair, framed, shown, frames, store_mark, SoundPair, Sound}
-use Rattle.cut.specs.Cut.{Write, size, old, new, left, CutPoint, CorrectWrite, Accident, Survives}
+use Rattle.cut.specs.Store.{Every, Pair, slot_at, report, framed_pair, framed, frames, SoundPair}
+use Rattle.cut.specs.Cut.{old, new, left, Accident}
 use Rattle.cut.proofs.FrameLaws.{PairTyped, row_fits}
 use Rattle.cut.proofs.PairLaws.{sound_won}
 use Rattle.cut.proofs.WriteLaws.{other_other}
@@ -27,9 +26,9 @@ use Rattle.plan.specs.declared.error.PlanError.{PlanError}
 use Rattle.plan.specs.declared.write.Plan.{Plan}
 use Rattle.plan.specs.Pairs.{frame_report}
 use Rattle.plan.specs.Plan.{followed, plan_write}
-use Rattle.plan.specs.Next.{fields_of, planned, encoded, write_by, next_write as next_by}
+use Rattle.plan.specs.Next.{fields_of, encoded, write_by, next_write as next_by}
 use Rattle.plan.specs.Promise.{NumberedPair, write_of, PlannedIsCorrect, SurvivesCuts}
-use Rattle.plan.proofs.PlanLaws.{Has, plan_has, planned_frame, next_of_winner}
+use Rattle.plan.proofs.PlanLaws.{plan_has, planned_frame, next_of_winner}
 use Rattle.plan.proofs.ReportLaws.{held_report, winner_held, followed_held}
 use Rattle.plan.proofs.FrameLaws.{frame_reports, row_is, frame_at, fits_at}
 

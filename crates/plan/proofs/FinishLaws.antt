@@ -1,5 +1,5 @@
 -- A correct write to a sound store that is finished leaves a sound store: the written slot is Valid beside the winner before.
-use Rattle.std.proofs.Common.{◌≡◌, refl, sym, ap, ap₂, ◌∙◌, true, List, [], ◌∷◌, ◌++◌, ℕ, ◌+◌, ◌≤◌, ◌<◌, max, arith}
+use Rattle.std.proofs.Common.{◌≡◌, refl, sym, ap, ap₂, ◌∙◌, true, List, [], ◌∷◌, ◌++◌, ℕ, ◌+◌, ◌≤◌, ◌<◌, arith}
 use Rattle.codec.specs.Bytes.{AllBytes}
 use Rattle.slot.specs.Status.{other}
 use Rattle.slot.specs.Payload.{payload as payload_of}
@@ -10,13 +10,13 @@ use Rattle.slot.specs.declared.slot.SlotInfo.{SlotInfo}
 use Rattle.slot.specs.declared.slot.SlotStatus.{SlotStatus}
 use Rattle.slot.proofs.RoundTripLaws.{round_trip}
 use Rattle.judge.specs.Numbers.{slots, highest}
-use Rattle.cut.specs.Store.{Every, Slot, Pair, accepts, slot_at, status, shown, last_record, Beside, SoundSlot, SoundPair, IsPage, Sound}
-use Rattle.cut.specs.Cut.{Write, store, expect, new, with_bytes, with_slot, CorrectWrite}
+use Rattle.cut.specs.Store.{Every, Slot, Pair, accepts, slot_at, status, shown, Beside, SoundSlot, SoundPair, IsPage, Sound}
+use Rattle.cut.specs.Cut.{Write, store, new, with_bytes, with_slot, CorrectWrite}
 use Rattle.cut.proofs.PairLaws.{number_at, valid_number, last_is}
 use Rattle.cut.proofs.Theorem.{bytes_typed, every_behind, every_first, sound_pairs}
 use Rattle.cut.proofs.WriteLaws.{none_refused, fields_fit, fields_proper, expect_is, new_bytes, winner_valid, winner_accepted}
 use Rattle.cut.proofs.WrittenPair.{kept_status, kept_bytes, put_bytes, put_decoder}
-use Rattle.plan.specs.Promise.{finished_pair, finished, FinishedIsSound}
+use Rattle.plan.specs.Promise.{finished_pair, FinishedIsSound}
 
 -- ---- no number of a pair is above the highest
 

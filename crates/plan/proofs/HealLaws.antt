@@ -1,5 +1,5 @@
 -- The planned heal is of the slot that the judge names.
-use Rattle.std.proofs.Common.{◌≡◌, refl, sym, ap, ap₂, ◌∙◌, Bool, true, false, cond, List, ℕ, ◌+◌, ◌*◌, ◌-◌, ◌^◌, ◌==◌, slice_get, ltb, Option, Some, None, Result, Ok, Err}
+use Rattle.std.proofs.Common.{◌≡◌, refl, sym, ap, ap₂, ◌∙◌, List, ℕ, ◌*◌, ◌==◌, slice_get, Option, Some, None, Result, Ok, Err}
 use Rattle.std.proofs.lemmas.Option.{some_pair_parts, same_Some}
 use Rattle.slot.specs.declared.slot.SlotIndex.{SlotIndex}
 use Rattle.judge.specs.Numbers.{slots, highest_other}
@@ -14,7 +14,7 @@ use Rattle.plan.specs.Numbers.{refusal}
 use Rattle.plan.specs.Pairs.{frame_report}
 use Rattle.plan.specs.Plan.{followed, plan_at, some_plan}
 use Rattle.plan.specs.Heal.{place, with_pair, heal_in, heal_for, plan_heal, HealsTheNamed}
-use Rattle.plan.proofs.PlanLaws.{Has, plan_has}
+use Rattle.plan.proofs.PlanLaws.{plan_has}
 
 -- What the judge answers where it answers.
 judged : (s : List ℕ) (clean : ℕ) (j : Judgement) → judge_frames s clean (pair_count s * verdict_width) ≡ Ok j → judgement (row s) (clean == 1) ≡ j

@@ -1,6 +1,5 @@
 -- The slot that is found without verdicts kept is the judge's.
-use Rattle.std.proofs.Common.{◌≡◌, refl, sym, ap, ap₂, ◌∙◌, Bool, true, List, [], ◌∷◌, ℕ, map, slice_get, Option, Some, None}
-use Rattle.slot.specs.declared.slot.SlotIndex.{SlotIndex}
+use Rattle.std.proofs.Common.{◌≡◌, refl, sym, ap, ap₂, ◌∙◌, Bool, true, List, [], ◌∷◌, ℕ, map, slice_get, Some, None}
 use Rattle.judge.specs.declared.pairs.Pair.{Pair}
 use Rattle.judge.specs.declared.numbers.Maxima.{Maxima}
 use Rattle.judge.specs.declared.verdict.PairVerdict.{PairVerdict}

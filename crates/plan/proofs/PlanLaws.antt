@@ -15,7 +15,7 @@ use Rattle.plan.specs.declared.write.Plan.{Plan}
 use Rattle.plan.specs.Error.{unless_refused}
 use Rattle.plan.specs.Numbers.{refusal}
 use Rattle.plan.specs.Pairs.{frame_report}
-use Rattle.plan.specs.Plan.{followed, plan_at, some_plan, plan_next, plan_for, plan_write, NotTheWinner}
+use Rattle.plan.specs.Plan.{followed, some_plan, plan_next, plan_for, plan_write, NotTheWinner}
 
 -- Over frames that are not refused the pair's plan is the plan of its frame, of which r is the report.
 pub plan_is : (s : List ℕ) (i : ℕ) (f : List ℕ) (most : ℕ) (fs : List (List ℕ)) (r : PairReport) (answer : Result (Option Plan) PlanError)

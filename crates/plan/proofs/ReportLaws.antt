@@ -1,12 +1,12 @@
 -- What `decide` says of the parts of a frame is what it says of the slots that the frame is of, as far as the parts hold it.
-use Rattle.std.proofs.Common.{◌≡◌, refl, sym, ap, ap₂, ◌∙◌, Bool, true, false, cond, ◌||◌, nat_eq, nat_lt, ◌==◌, List, ℕ, Option, Some, None, option_map, arith}
+use Rattle.std.proofs.Common.{◌≡◌, refl, sym, ◌∙◌, Bool, true, false, cond, ◌||◌, nat_eq, nat_lt, ℕ, Option, Some, None, option_map, arith}
 use Rattle.std.proofs.lemmas.Option.{some_pair_parts}
-use Rattle.slot.specs.Status.{other, info}
+use Rattle.slot.specs.Status.{info}
 use Rattle.slot.specs.declared.slot.SlotIndex.{SlotIndex}
 use Rattle.slot.specs.declared.slot.SlotInfo.{SlotInfo}
 use Rattle.slot.specs.declared.slot.SlotStatus.{SlotStatus}
 use Rattle.slot.specs.declared.slot.HeaderFacts.{HeaderFacts}
-use Rattle.pair.specs.Pair.{refused, explains_survivor, survivor, plain, ordered, two_valid, none_valid, by_info, decide, status, named, info_by, winner_info, next_write}
+use Rattle.pair.specs.Pair.{refused, explains_survivor, plain, ordered, two_valid, none_valid, by_info, decide, status, named, info_by, winner_info}
 use Rattle.pair.specs.declared.pair.PairReport.{PairReport}
 use Rattle.pair.specs.declared.pair.Winner.{Winner}
 use Rattle.judge.specs.Part.{version_of_info, part_of}

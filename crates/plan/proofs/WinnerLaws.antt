@@ -1,5 +1,5 @@
 -- The winners of the verdicts are those that the pairs' own slots show: neither pass changes a winner.
-use Rattle.std.proofs.Common.{◌≡◌, refl, ap₂, ◌∙◌, Bool, true, false, List, [], ◌∷◌, ℕ, suc, ◌+◌, ◌*◌, map, arith, Option, Some, None}
+use Rattle.std.proofs.Common.{◌≡◌, refl, ap₂, ◌∙◌, Bool, true, false, List, [], ◌∷◌, ℕ, suc, ◌+◌, ◌*◌, map, arith, Option}
 use Rattle.slot.specs.declared.slot.SlotIndex.{SlotIndex}
 use Rattle.judge.specs.declared.pairs.Shown.{Shown}
 use Rattle.judge.specs.declared.pairs.Pair.{Pair}

@@ -1,6 +1,6 @@
 -- What a planned write keeps: it is the cut theorem's correct write, the store survives where it is cut, and a write that is finished leaves
 -- a sound store (docs/FORMAT.md, "What a correct write is").
-use Rattle.std.specs.Prelude.{◌≡◌, Option, Some, None, Result, Ok, true, false, List, ◌∷◌, ◌++◌, ℕ, ◌+◌, ◌*◌, ◌^◌, ◌≤◌, ◌<◌, length}
+use Rattle.std.specs.Prelude.{◌≡◌, Option, Some, Result, Ok, true, false, List, ◌∷◌, ◌++◌, ℕ, ◌+◌, ◌*◌, ◌^◌, ◌≤◌, ◌<◌, length}
 use Rattle.codec.specs.Bytes.{AllBytes}
 use Rattle.slot.specs.declared.slot.SlotIndex.{SlotIndex}
 use Rattle.slot.specs.declared.slot.SlotInfo.{SlotInfo}
