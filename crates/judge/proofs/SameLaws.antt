@@ -1,6 +1,6 @@
 -- The frames filled from a row of pairs stand for that row, so that the judge over them judges it: there is an error only for an empty row,
 -- another room than the verdicts need, and a mark out of range.
-use Rattle.std.proofs.Common.{◌≡◌, refl, sym, ap, ap₂, ◌∙◌, Bool, true, false, ◌&&◌, List, [], ◌∷◌, ◌++◌, ℕ, ◌*◌, arith, eqb, leb, length, map, length-append, take_at, drop_at, append-nil, Option, Some, None}
+use Rattle.std.proofs.Common.{◌≡◌, refl, sym, ap, ap₂, ◌∙◌, Bool, true, ◌&&◌, List, [], ◌∷◌, ◌++◌, ℕ, ◌*◌, arith, eqb, leb, length, map, length-append, take_at, drop_at, append-nil, Option, Some, None}
 use Rattle.std.specs.List.{list_all}
 use Rattle.std.specs.Simd.{first_chunks}
 use Rattle.codec.proofs.ReadLaws.{start, onward}

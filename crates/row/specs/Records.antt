@@ -34,16 +34,16 @@ abbrev pub facts_from : SlotPart → Option HeaderFacts
 facts_from p =
     if p.facts == 1 then Some (record { stored_header_crc32c = p.version.header_crc32c; numbered = None })
     else if p.facts == 2 then
-        Some
-        (record {
-          stored_header_crc32c = p.version.header_crc32c;
-          numbered =
-              Some (record {
-                generation = p.version.generation;
-                meta_seq = p.version.meta_seq;
-                prev_header_crc32c = p.version.prev_header_crc32c;
-              });
-        })
+    Some
+    (record {
+      stored_header_crc32c = p.version.header_crc32c;
+      numbered =
+          Some (record {
+            generation = p.version.generation;
+            meta_seq = p.version.meta_seq;
+            prev_header_crc32c = p.version.prev_header_crc32c;
+          });
+    })
     else None
 
 abbrev pub slot_of : SlotPart → SlotRead

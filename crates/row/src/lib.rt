@@ -36,8 +36,9 @@ fn info_of(v: Version) -> SlotInfo
 fn status_from(part: SlotPart) -> SlotStatus
     ensures { result ≡ status_from part }
 {
-    SlotStatus::from_code(u32::from(part.code), info_of(part.version))
-        .unwrap_or(SlotStatus::ReadError)
+    SlotStatus::from_code(u32::from(part.code), info_of(part.version)).unwrap_or(
+        SlotStatus::ReadError,
+    )
 }
 
 fn facts_from(part: SlotPart) -> Option<HeaderFacts>

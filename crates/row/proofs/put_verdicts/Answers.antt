@@ -1,6 +1,6 @@
 -- Each turn writes the bytes of a verdict more.
-use Rattle.std.proofs.Common.{◌≡◌, ◌≤◌, refl, sym, ap, ◌∙◌, ◌+◌, ◌-◌, ◌*◌, ◌++◌, arith, length, take, drop, map, flat_map, List, ℕ, drop-cons}
-use Rattle.judge.specs.Frames.{verdict_bytes, row_bytes}
+use Rattle.std.proofs.Common.{◌≡◌, ◌≤◌, sym, ap, ◌∙◌, ◌+◌, ◌-◌, ◌*◌, ◌++◌, arith, length, take, drop, List, ℕ}
+use Rattle.judge.specs.Frames.{row_bytes}
 use Rattle.row.proofs.RecordLaws.{written, length-written, next-bytes}
 use Rattle.row.proofs.put_verdicts.Goals as goal
 
