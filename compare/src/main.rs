@@ -34,10 +34,16 @@ mod slot;
 #[allow(dead_code)]
 #[rustfmt::skip]
 mod bytestep_slot;
+/// The reference's pair.rs over that.
+#[path = "../../target/compare/bytestep/pair.rs"]
+#[allow(dead_code)]
+#[rustfmt::skip]
+mod bytestep_pair;
 
 mod bench;
 mod bench_judge;
 mod bench_meta;
+mod bench_pairs;
 mod bench_slots;
 mod bytestep;
 mod checksum;
@@ -65,6 +71,7 @@ mod lent;
 mod list;
 mod list_codec;
 mod list_judge;
+mod list_meta;
 mod list_slots;
 mod meta_reference;
 mod name_sample;
@@ -129,7 +136,7 @@ const QUICK_LISTS: u64 = 700;
 const LONG_LISTS: u64 = 7_000;
 
 const USAGE: &str = "usage: compare quick | long [SEED] | cuts [long [SEED]] | verdicts PROGRAM [SEED] | \
-    rows PROGRAM [SEED] | list codec|slots|judge | bench";
+    rows PROGRAM [SEED] | list codec|slots|judge|meta | bench";
 
 const BAD_SEED: &str = "SEED is a number, decimal or hex with 0x";
 
@@ -162,6 +169,7 @@ fn main() -> ExitCode {
         ["list", "codec"] => list::print(list_codec::fill),
         ["list", "slots"] => list::print(list_slots::fill),
         ["list", "judge"] => list::print(list_judge::fill),
+        ["list", "meta"] => list::print(list_meta::fill),
         ["bench"] => bench::run(),
         _ => fail(USAGE),
     }

@@ -63,7 +63,7 @@ pub record PairTyped (p : Pair) : Type 0 where
   pub a : Typed p.a
   pub b : Typed p.b
 
-row_fits : {ps : List Pair} → Every PairTyped ps → AllFit (framed ps)
+pub row_fits : {ps : List Pair} → Every PairTyped ps → AllFit (framed ps)
 row_fits Every.none = tt
 row_fits (Every.more {x = p} typed rest) = (
   record {

@@ -85,7 +85,7 @@ row_back (Every.more {x = p} sound rest) back =
 sound_typed : {p : Pair} → SoundPair p → PairTyped p
 sound_typed sound = record { a = (sound.slots SlotIndex.A).typed; b = (sound.slots SlotIndex.B).typed }
 
-all_typed : {ps : List Pair} → Every SoundPair ps → Every PairTyped ps
+pub all_typed : {ps : List Pair} → Every SoundPair ps → Every PairTyped ps
 all_typed Every.none = Every.none
 all_typed (Every.more sound rest) = Every.more (sound_typed sound) (all_typed rest)
 
@@ -93,7 +93,7 @@ row_typed : {before : List Pair} → Every SoundPair before → {ps : List Pair}
 row_typed Every.none typed = typed
 row_typed (Every.more sound rest) typed = Every.more (sound_typed sound) (row_typed rest typed)
 
-bytes_typed : (s : Slot) (bytes : List ℕ) → Typed s → AllBytes bytes → Typed (with_bytes bytes s)
+pub bytes_typed : (s : Slot) (bytes : List ℕ) → Typed s → AllBytes bytes → Typed (with_bytes bytes s)
 bytes_typed s bytes typed all =
     record {
       bytes = all;
@@ -136,17 +136,17 @@ every_before : {P : Pair → Type 0} (before ps : List Pair) → Every P (before
 every_before [] ps all = Every.none
 every_before (p ∷ before) ps (Every.more first rest) = Every.more first (every_before before ps rest)
 
-every_behind : {P : Pair → Type 0} (before ps : List Pair) → Every P (before ++ ps) → Every P ps
+pub every_behind : {P : Pair → Type 0} (before ps : List Pair) → Every P (before ++ ps) → Every P ps
 every_behind [] ps all = all
 every_behind (p ∷ before) ps (Every.more first rest) = every_behind before ps rest
 
-every_first : {P : Pair → Type 0} {p : Pair} {ps : List Pair} → Every P (p ∷ ps) → P p
+pub every_first : {P : Pair → Type 0} {p : Pair} {ps : List Pair} → Every P (p ∷ ps) → P p
 every_first (Every.more first rest) = first
 
 every_rest : {P : Pair → Type 0} {p : Pair} {ps : List Pair} → Every P (p ∷ ps) → Every P ps
 every_rest (Every.more first rest) = rest
 
-sound_pairs : {ps : List Pair} → Sound ps → Every SoundPair ps
+pub sound_pairs : {ps : List Pair} → Sound ps → Every SoundPair ps
 sound_pairs (Sound.row volume pages all) = all
 
 module _ (w : Write) (sound_before : Every SoundPair w.before) (sound : SoundPair w.pair) (sound_behind : Every SoundPair w.behind)

@@ -158,7 +158,7 @@ module _ (w : Write) (sound : SoundPair w.pair) (correct : CorrectWrite w) where
 
   -- ---- what is written
 
-  none_refused : encode_check f w.payload (length w.buffer) ≡ Ok tt
+  pub none_refused : encode_check w.fields w.payload (length w.buffer) ≡ Ok tt
   unfolding encode_check
   none_refused =
       let within : length w.payload ≤ length w.buffer - 128 = omega (arith, correct.fits, correct.room) in

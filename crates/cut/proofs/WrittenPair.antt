@@ -32,15 +32,15 @@ use Rattle.cut.proofs.WriteLaws.{other_other, Older, winner_valid, winner_accept
 -- ---- a pair with other bytes in one slot
 
 module _ (p : Pair) (s : List ℕ) where
-  kept_status : (index : SlotIndex) → status (slot_at (other index) (with_slot index s p)) ≡ status (slot_at (other index) p)
+  pub kept_status : (index : SlotIndex) → status (slot_at (other index) (with_slot index s p)) ≡ status (slot_at (other index) p)
   kept_status SlotIndex.A = refl
   kept_status SlotIndex.B = refl
 
-  kept_bytes : (index : SlotIndex) → (slot_at (other index) (with_slot index s p)).bytes ≡ (slot_at (other index) p).bytes
+  pub kept_bytes : (index : SlotIndex) → (slot_at (other index) (with_slot index s p)).bytes ≡ (slot_at (other index) p).bytes
   kept_bytes SlotIndex.A = refl
   kept_bytes SlotIndex.B = refl
 
-  put_bytes : (index : SlotIndex) → (slot_at index (with_slot index s p)).bytes ≡ s
+  pub put_bytes : (index : SlotIndex) → (slot_at index (with_slot index s p)).bytes ≡ s
   put_bytes SlotIndex.A = refl
   put_bytes SlotIndex.B = refl
 
@@ -55,7 +55,7 @@ module _ (p : Pair) (s : List ℕ) where
   beside_facts SlotIndex.A = refl
   beside_facts SlotIndex.B = refl
 
-  put_decoder : (index : SlotIndex) → (with_slot index s p).decoder ≡ p.decoder
+  pub put_decoder : (index : SlotIndex) → (with_slot index s p).decoder ≡ p.decoder
   put_decoder SlotIndex.A = refl
   put_decoder SlotIndex.B = refl
 

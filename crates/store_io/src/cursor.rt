@@ -26,86 +26,86 @@ fn give<T: Copy>(read: Option<(T, Reader)>, position: &mut usize, value: &mut T)
     0
 }
 
-// How many bytes of `buf` are left to read at `position`.
+// How many bytes of `bytes` are left to read at `position`.
 #[unsafe(no_mangle)]
-pub extern "C" fn sio_remaining(buf: &[u8], position: usize) -> usize
-    ensures { result ≡ remaining buf.now (record { pos = position }) }
+pub extern "C" fn sio_remaining(bytes: &[u8], position: usize) -> usize
+    ensures { result ≡ remaining bytes.now (record { pos = position }) }
 {
-    Reader { pos: position }.remaining(buf)
+    Reader { pos: position }.remaining(bytes)
 }
 
 // Reads a little-endian `u8`.
 #[unsafe(no_mangle)]
-pub extern "C" fn sio_read_u8(buf: &[u8], position: &mut usize, value: &mut u8) -> u32
-    ensures { (result, position.new, value.new) ≡ after_read position.old value.old (number w8 buf.now (record { pos = position.old })) }
+pub extern "C" fn sio_read_u8(bytes: &[u8], position: &mut usize, value: &mut u8) -> u32
+    ensures { (result, position.new, value.new) ≡ after_read position.old value.old (number w8 bytes.now (record { pos = position.old })) }
 {
-    give(Reader { pos: *position }.u8(buf), position, value)
+    give(Reader { pos: *position }.u8(bytes), position, value)
 }
 
 // Reads a little-endian `u16`.
 #[unsafe(no_mangle)]
-pub extern "C" fn sio_read_u16(buf: &[u8], position: &mut usize, value: &mut u16) -> u32
-    ensures { (result, position.new, value.new) ≡ after_read position.old value.old (number w16 buf.now (record { pos = position.old })) }
+pub extern "C" fn sio_read_u16(bytes: &[u8], position: &mut usize, value: &mut u16) -> u32
+    ensures { (result, position.new, value.new) ≡ after_read position.old value.old (number w16 bytes.now (record { pos = position.old })) }
 {
-    give(Reader { pos: *position }.u16(buf), position, value)
+    give(Reader { pos: *position }.u16(bytes), position, value)
 }
 
 // Reads a little-endian `u32`.
 #[unsafe(no_mangle)]
-pub extern "C" fn sio_read_u32(buf: &[u8], position: &mut usize, value: &mut u32) -> u32
-    ensures { (result, position.new, value.new) ≡ after_read position.old value.old (number w32 buf.now (record { pos = position.old })) }
+pub extern "C" fn sio_read_u32(bytes: &[u8], position: &mut usize, value: &mut u32) -> u32
+    ensures { (result, position.new, value.new) ≡ after_read position.old value.old (number w32 bytes.now (record { pos = position.old })) }
 {
-    give(Reader { pos: *position }.u32(buf), position, value)
+    give(Reader { pos: *position }.u32(bytes), position, value)
 }
 
 // Reads a little-endian `u64`.
 #[unsafe(no_mangle)]
-pub extern "C" fn sio_read_u64(buf: &[u8], position: &mut usize, value: &mut u64) -> u32
-    ensures { (result, position.new, value.new) ≡ after_read position.old value.old (number w64 buf.now (record { pos = position.old })) }
+pub extern "C" fn sio_read_u64(bytes: &[u8], position: &mut usize, value: &mut u64) -> u32
+    ensures { (result, position.new, value.new) ≡ after_read position.old value.old (number w64 bytes.now (record { pos = position.old })) }
 {
-    give(Reader { pos: *position }.u64(buf), position, value)
+    give(Reader { pos: *position }.u64(bytes), position, value)
 }
 
-// Reads a run of `count` bytes: `value` is where it starts.
+// Reads a run of `count` bytes: `start` is where it starts.
 #[unsafe(no_mangle)]
 pub extern "C" fn sio_read_bytes(
-    buf: &[u8],
+    bytes: &[u8],
     position: &mut usize,
     count: usize,
-    value: &mut usize,
+    start: &mut usize,
 ) -> u32
-    ensures { (result, position.new, value.new) ≡ after_read position.old value.old (run_start count buf.now position.old) }
+    ensures { (result, position.new, start.new) ≡ after_read position.old start.old (run_start count bytes.now position.old) }
 {
-    let Some((_, next)) = (Reader { pos: *position }).bytes(buf, count) else {
+    let Some((_, next)) = (Reader { pos: *position }).bytes(bytes, count) else {
         return TRUNCATED;
     };
-    *value = *position;
+    *start = *position;
     *position = next.pos;
     0
 }
 
 // Reads 16 bytes.
 #[unsafe(no_mangle)]
-pub extern "C" fn sio_read_array16(buf: &[u8], position: &mut usize, value: &mut [u8; 16]) -> u32
-    ensures { (result, position.new, value.new) ≡ after_read position.old value.old (run 16 buf.now (record { pos = position.old })) }
+pub extern "C" fn sio_read_array16(bytes: &[u8], position: &mut usize, value: &mut [u8; 16]) -> u32
+    ensures { (result, position.new, value.new) ≡ after_read position.old value.old (run 16 bytes.now (record { pos = position.old })) }
 {
-    give(Reader { pos: *position }.array(buf), position, value)
+    give(Reader { pos: *position }.array(bytes), position, value)
 }
 
 // Reads 24 bytes.
 #[unsafe(no_mangle)]
-pub extern "C" fn sio_read_array24(buf: &[u8], position: &mut usize, value: &mut [u8; 24]) -> u32
-    ensures { (result, position.new, value.new) ≡ after_read position.old value.old (run 24 buf.now (record { pos = position.old })) }
+pub extern "C" fn sio_read_array24(bytes: &[u8], position: &mut usize, value: &mut [u8; 24]) -> u32
+    ensures { (result, position.new, value.new) ≡ after_read position.old value.old (run 24 bytes.now (record { pos = position.old })) }
 {
-    give(Reader { pos: *position }.array(buf), position, value)
+    give(Reader { pos: *position }.array(bytes), position, value)
 }
 
 // Writes a little-endian `u8`.
 #[unsafe(no_mangle)]
-pub extern "C" fn sio_write_u8(buf: &mut [u8], position: &mut usize, value: u8) -> u32
-    ensures { (result, position.new, buf.new) ≡ after_write position.old (write (to_le_bytes w8 value) buf.old (record { pos = position.old })) }
+pub extern "C" fn sio_write_u8(bytes: &mut [u8], position: &mut usize, value: u8) -> u32
+    ensures { (result, position.new, bytes.new) ≡ after_write position.old (write (to_le_bytes w8 value) bytes.old (record { pos = position.old })) }
 {
-    let Some(next) = (Writer { pos: *position }).u8(buf, value) else {
+    let Some(next) = (Writer { pos: *position }).u8(bytes, value) else {
         return OVERFLOW;
     };
     *position = next.pos;
@@ -114,10 +114,10 @@ pub extern "C" fn sio_write_u8(buf: &mut [u8], position: &mut usize, value: u8) 
 
 // Writes a little-endian `u16`.
 #[unsafe(no_mangle)]
-pub extern "C" fn sio_write_u16(buf: &mut [u8], position: &mut usize, value: u16) -> u32
-    ensures { (result, position.new, buf.new) ≡ after_write position.old (write (to_le_bytes w16 value) buf.old (record { pos = position.old })) }
+pub extern "C" fn sio_write_u16(bytes: &mut [u8], position: &mut usize, value: u16) -> u32
+    ensures { (result, position.new, bytes.new) ≡ after_write position.old (write (to_le_bytes w16 value) bytes.old (record { pos = position.old })) }
 {
-    let Some(next) = (Writer { pos: *position }).u16(buf, value) else {
+    let Some(next) = (Writer { pos: *position }).u16(bytes, value) else {
         return OVERFLOW;
     };
     *position = next.pos;
@@ -126,10 +126,10 @@ pub extern "C" fn sio_write_u16(buf: &mut [u8], position: &mut usize, value: u16
 
 // Writes a little-endian `u32`.
 #[unsafe(no_mangle)]
-pub extern "C" fn sio_write_u32(buf: &mut [u8], position: &mut usize, value: u32) -> u32
-    ensures { (result, position.new, buf.new) ≡ after_write position.old (write (to_le_bytes w32 value) buf.old (record { pos = position.old })) }
+pub extern "C" fn sio_write_u32(bytes: &mut [u8], position: &mut usize, value: u32) -> u32
+    ensures { (result, position.new, bytes.new) ≡ after_write position.old (write (to_le_bytes w32 value) bytes.old (record { pos = position.old })) }
 {
-    let Some(next) = (Writer { pos: *position }).u32(buf, value) else {
+    let Some(next) = (Writer { pos: *position }).u32(bytes, value) else {
         return OVERFLOW;
     };
     *position = next.pos;
@@ -138,10 +138,10 @@ pub extern "C" fn sio_write_u32(buf: &mut [u8], position: &mut usize, value: u32
 
 // Writes a little-endian `u64`.
 #[unsafe(no_mangle)]
-pub extern "C" fn sio_write_u64(buf: &mut [u8], position: &mut usize, value: u64) -> u32
-    ensures { (result, position.new, buf.new) ≡ after_write position.old (write (to_le_bytes w64 value) buf.old (record { pos = position.old })) }
+pub extern "C" fn sio_write_u64(bytes: &mut [u8], position: &mut usize, value: u64) -> u32
+    ensures { (result, position.new, bytes.new) ≡ after_write position.old (write (to_le_bytes w64 value) bytes.old (record { pos = position.old })) }
 {
-    let Some(next) = (Writer { pos: *position }).u64(buf, value) else {
+    let Some(next) = (Writer { pos: *position }).u64(bytes, value) else {
         return OVERFLOW;
     };
     *position = next.pos;
@@ -150,10 +150,10 @@ pub extern "C" fn sio_write_u64(buf: &mut [u8], position: &mut usize, value: u64
 
 // Writes all of `src`.
 #[unsafe(no_mangle)]
-pub extern "C" fn sio_write_bytes(buf: &mut [u8], position: &mut usize, src: &[u8]) -> u32
-    ensures { (result, position.new, buf.new) ≡ after_write position.old (write src.now buf.old (record { pos = position.old })) }
+pub extern "C" fn sio_write_bytes(bytes: &mut [u8], position: &mut usize, src: &[u8]) -> u32
+    ensures { (result, position.new, bytes.new) ≡ after_write position.old (write src.now bytes.old (record { pos = position.old })) }
 {
-    let Some(next) = (Writer { pos: *position }).bytes(buf, src) else {
+    let Some(next) = (Writer { pos: *position }).bytes(bytes, src) else {
         return OVERFLOW;
     };
     *position = next.pos;
@@ -162,10 +162,10 @@ pub extern "C" fn sio_write_bytes(buf: &mut [u8], position: &mut usize, src: &[u
 
 // Writes `count` zeros.
 #[unsafe(no_mangle)]
-pub extern "C" fn sio_write_zeros(buf: &mut [u8], position: &mut usize, count: usize) -> u32
-    ensures { (result, position.new, buf.new) ≡ after_write position.old (write (replicate count 0) buf.old (record { pos = position.old })) }
+pub extern "C" fn sio_write_zeros(bytes: &mut [u8], position: &mut usize, count: usize) -> u32
+    ensures { (result, position.new, bytes.new) ≡ after_write position.old (write (replicate count 0) bytes.old (record { pos = position.old })) }
 {
-    let Some(next) = (Writer { pos: *position }).zeros(buf, count) else {
+    let Some(next) = (Writer { pos: *position }).zeros(bytes, count) else {
         return OVERFLOW;
     };
     *position = next.pos;

@@ -93,6 +93,7 @@ pub extern "C" fn sio_write_entry(
 }
 
 // The answer of `check` for the entry in the first 96 bytes.
+#[inline(always)]
 pub fn check_at(entry: &[u8], limits: &EntryLimits) -> Result<Entry2, MetaError>
     ensures { result ≡ checked_at entry.now limits.now }
 {
@@ -199,8 +200,7 @@ pub extern "C" fn sio_entry_name(entry: &[u8], name: &mut [u8; 24], name_len: &m
     };
     match raw.name() {
         Some(found) => {
-            let bytes = found.bytes;
-            *name = bytes;
+            name.copy_from_slice(&found.bytes);
             *name_len = found.len;
         }
         None => {
@@ -227,9 +227,8 @@ pub extern "C" fn sio_entry_name_and_kind(
     };
     match raw.name_and_kind() {
         Some((found, found_kind)) => {
-            let bytes = found.bytes;
             *kind = found_kind.to_u8();
-            *name = bytes;
+            name.copy_from_slice(&found.bytes);
             *name_len = found.len;
         }
         None => {

@@ -13,8 +13,7 @@ fn give(named: Result<RegionName, MetaError>, stored: &mut [u8; 24], stored_len:
 {
     match named {
         Ok(name) => {
-            let bytes = name.bytes;
-            *stored = bytes;
+            stored.copy_from_slice(&name.bytes);
             *stored_len = name.len;
             0
         }
