@@ -28,21 +28,20 @@
  *
  * Stack. So many bytes a call takes at most, its arguments on the stack and the return address included:
  *
- *      64   sio_remaining sio_read_u8 sio_read_u16 sio_read_u32 sio_read_u64 sio_read_bytes sio_read_array16
- *           sio_read_array24 sio_write_u8 sio_write_u16 sio_write_u32 sio_write_u64 sio_write_bytes sio_volume_decode
+ *      64   sio_crc32c sio_crc32c_append sio_remaining sio_read_u8 sio_read_u16 sio_read_u32 sio_read_u64 sio_read_bytes
+ *           sio_read_array16 sio_read_array24 sio_write_u8 sio_write_u16 sio_write_u32 sio_write_u64 sio_volume_decode
  *           sio_volume_base_decode sio_volume_base_encode sio_entries_per_page sio_table_end sio_check_file_len
- *           sio_reserved_span sio_crc32c sio_crc32c_append
- *     128   sio_write_zeros sio_encode_page sio_volume_encode sio_read_entry sio_region_name sio_decode_page
- *           sio_crc32c_gap
- *     192   sio_write_entry
- *     256   sio_region_name_padded sio_encode
- *     384   sio_entry_name sio_entry_name_and_kind
- *     448   sio_header_facts
- *     512   sio_judge
+ *           sio_decode_page sio_reserved_span
+ *     128   sio_crc32c_gap sio_write_bytes sio_write_zeros sio_decide sio_volume_encode sio_encode_page sio_read_entry
+ *           sio_write_entry
+ *     192   sio_region_name
+ *     256   sio_encode sio_judge
+ *     320   sio_region_name_padded
+ *     448   sio_header_facts sio_frame_slot sio_entry_name sio_entry_name_and_kind
  *     576   sio_validate
- *     640   sio_decide sio_entry_to_raw sio_frame_slot
+ *     640   sio_entry_to_raw
  *     704   sio_check_entry
- *     960   sio_winner_payload
+ *     896   sio_winner_payload
  *
  * Measured on x86-64 Linux by examples/stack.c: the stack below a call is filled with a byte, and the lowest byte that changes
  * is looked for; then 16 are added and the sum is rounded up to 64. Largest and smallest slots and pages take the same. No

@@ -2,6 +2,7 @@
 
 use crate::bench_judge;
 use crate::bench_meta;
+use crate::bench_pairs;
 use crate::bench_slots;
 use crate::bytestep;
 use crate::crc32c::crc32c;
@@ -69,6 +70,8 @@ pub fn run() -> ExitCode {
         && bench_slots::ENCODE.measure()
         && bench_slots::VALIDATE.measure()
         && bench_slots::HEADER_FACTS.measure()
+        && bench_pairs::FRAME_SLOT.measure()
+        && bench_pairs::WINNER_PAYLOAD.measure()
         && bench_judge::JUDGE.measure()
         && bench_judge::JUDGE_DAMAGED.measure()
         && bench_meta::VOLUME_DECODE.measure()

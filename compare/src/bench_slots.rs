@@ -97,7 +97,7 @@ fn bytestep_fields(fields: &slot::SlotFields) -> bytestep_slot::SlotFields {
     }
 }
 
-fn bytestep_expect(expect: &slot::Expect) -> bytestep_slot::Expect {
+pub fn bytestep_expect(expect: &slot::Expect) -> bytestep_slot::Expect {
     bytestep_slot::Expect {
         volume_uuid: expect.volume_uuid,
         object_id: expect.object_id,

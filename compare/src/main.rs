@@ -34,10 +34,16 @@ mod slot;
 #[allow(dead_code)]
 #[rustfmt::skip]
 mod bytestep_slot;
+/// The reference's pair.rs over that.
+#[path = "../../target/compare/bytestep/pair.rs"]
+#[allow(dead_code)]
+#[rustfmt::skip]
+mod bytestep_pair;
 
 mod bench;
 mod bench_judge;
 mod bench_meta;
+mod bench_pairs;
 mod bench_slots;
 mod bytestep;
 mod checksum;

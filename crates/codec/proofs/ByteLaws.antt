@@ -1,6 +1,6 @@
 -- Lists of bytes: parts and joins of bytes are bytes, a number of a width is below its power, and lists that agree in front agree in what is
 -- read there.
-use Rattle.std.proofs.Common.{◌≡◌, sym, ap, ◌∙◌, List, [], ◌∷◌, ◌++◌, ℕ, zero, suc, ◌+◌, ◌-◌, ◌≤◌, zero-add, suc-add, le_of_eq, lit<, length, take, drop, replicate, length-drop, take-take, get_or-drop, take_all}
+use Rattle.std.proofs.Common.{◌≡◌, sym, ap, ◌∙◌, List, [], ◌∷◌, ◌++◌, ℕ, zero, suc, ◌+◌, ◌≤◌, zero-add, suc-add, lit<, take, drop, replicate, take-take, get_or-drop}
 use Rattle.std.proofs.Math.Seq.{take-nil}
 use Rattle.std.specs.Int.{Width, byte_len, from_le_bytes}
 use Rattle.codec.specs.Bytes.{AllBytes, le}
@@ -23,10 +23,6 @@ pub zero-bytes : (n : ℕ) → AllBytes (replicate n 0)
 zero-bytes zero i = lit< tt
 zero-bytes (suc n) zero = lit< tt
 zero-bytes (suc n) (suc i) = zero-bytes n i
-
--- What `&s[k..]` holds.
-pub part-rest : (k : ℕ) (s : List ℕ) → take (length s - k) (drop k s) ≡ drop k s
-part-rest k s = take_all (length s - k) (drop k s) (le_of_eq (length-drop k s))
 
 -- A run by the front of the list.
 run-front : (k n : ℕ) (s : List ℕ) → take n (drop k s) ≡ drop k (take (k + n) s)

@@ -1,10 +1,8 @@
 -- Reading what was written: where the bytes from the cursor on begin with a number's bytes, it reads the number and leaves the rest.
-use Rattle.std.proofs.Common.{◌≡◌, refl, sym, ap, ◌∙◌, ℕ, ◌+◌, ◌^◌, ◌<◌, ◌≤◌, List, ◌++◌, length, take, drop, Some, arith, false, ltb, le-ltb, length-append, take_at, drop_at, drop-drop}
-use Rattle.std.specs.Int.{w8, w16, w32, w64, to_le_bytes, from_le_bytes}
-use Rattle.std.proofs.lemmas.Nat.{from_le_bytes-to_le_bytes_2, from_le_bytes-to_le_bytes_4, from_le_bytes-to_le_bytes_8}
-use Rattle.std.proofs.Math.Nat.{mod-eq_of_lt}
+use Rattle.std.proofs.Common.{◌≡◌, refl, sym, ap, ◌∙◌, ℕ, ◌+◌, ◌^◌, ◌<◌, ◌≤◌, List, ◌++◌, length, take, drop, arith, false, ltb, le-ltb, length-append, take_at, drop_at, drop-drop}
+use Rattle.std.specs.Int.{w32, w64, to_le_bytes, from_le_bytes}
+use Rattle.std.proofs.lemmas.Nat.{from_le_bytes-to_le_bytes_4, from_le_bytes-to_le_bytes_8}
 use Rattle.codec.specs.Bytes.{le}
-use Rattle.codec.specs.Cursor.{run}
 
 -- t is what s has from p on.
 pub record Rest (s : List ℕ) (p : ℕ) (t : List ℕ) : Type 0 where
@@ -31,18 +29,7 @@ module _ {s : List ℕ} {p : ℕ} (n : ℕ) (xs t : List ℕ) (size : length xs 
   pub long : ltb (length s) (p + n) ≡ false
   long = le-ltb _ _ within
 
-  pub reads_run : run n s (record { pos = p }) ≡ Some (xs, record { pos = p + n })
-  reads_run = simp (le-ltb _ _ within, front)
-
 module _ {s : List ℕ} {p : ℕ} (v : ℕ) (t : List ℕ) where
-  pub value_u8 : v < 2 ^ 8 → Rest s p (to_le_bytes w8 v ++ t) → le w8 s p ≡ v
-  unfolding le
-  value_u8 fits r = ap (from_le_bytes w8) (front 1 (to_le_bytes w8 v) t refl r) ∙ mod-eq_of_lt {m = 256} fits
-
-  pub value_u16 : v < 2 ^ 16 → Rest s p (to_le_bytes w16 v ++ t) → le w16 s p ≡ v
-  unfolding le
-  value_u16 fits r = ap (from_le_bytes w16) (front 2 (to_le_bytes w16 v) t refl r) ∙ from_le_bytes-to_le_bytes_2 v fits
-
   pub value_u32 : v < 2 ^ 32 → Rest s p (to_le_bytes w32 v ++ t) → le w32 s p ≡ v
   unfolding le
   value_u32 fits r = ap (from_le_bytes w32) (front 4 (to_le_bytes w32 v) t refl r) ∙ from_le_bytes-to_le_bytes_4 v fits

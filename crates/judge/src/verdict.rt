@@ -253,7 +253,7 @@ impl PairVerdict {
 
 impl Tally {
     // One more pair; `volume`: it is the volume record.
-    pub fn count(&mut self, volume: bool, case: PairCase, v: PairVerdict)
+    pub(crate) fn count(&mut self, volume: bool, case: PairCase, v: PairVerdict)
         requires { self.old.candidates < usize.MAX }
         ensures { self.new ≡ tallied self.old volume case v }
     {

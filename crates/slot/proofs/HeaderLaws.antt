@@ -1,8 +1,9 @@
 -- The header read step by step is the header by its offsets.
-use Rattle.std.proofs.Common.{◌≡◌, refl, ℕ, ◌≤◌, Bool, true, false, List, length, Option, Some, None, arith, le-ltb, ltb, ltb-false, lit≤}
+use Rattle.std.proofs.Common.{◌≡◌, refl, sym, ap, ◌∙◌, take, ℕ, ◌≤◌, Bool, true, false, List, length, Option, Some, None, arith, le-ltb, ltb, ltb-false, lit≤}
 use Rattle.std.specs.Prelude.{if◌then◌else◌}
 use Rattle.codec.specs.Cursor.{◌>>=◌}
 use Rattle.slot.specs.Header.{header, header_read, HeaderLayout}
+use Rattle.slot.specs.declared.header.Header.{Header}
 
 -- A row of steps as a row of tests.
 step_test : {A B : Type 0} (past : Bool) (x : A) (f : A → Option B) → ((if past then None else Some x) >>= f) ≡ (if past then None else f x)
@@ -55,3 +56,10 @@ header_layout s = go (ltb (length s) 128) refl
 
 pub header_there : (s : List ℕ) → 128 ≤ length s → header_read s ≡ Some (header s)
 header_there s long = whole s (le-ltb _ _ long)
+
+pub read_magic : (s : List ℕ) (h : Header) → Some h ≡ header_read s → h.magic ≡ take 8 s
+read_magic s h is = go (ltb (length s) 128) (sym (is ∙ header_layout s))
+  where
+    go : (past : Bool) → (if past then None else Some (header s)) ≡ Some h → h.magic ≡ take 8 s
+    go true is = absurd cc
+    go false is = let same : header s ≡ h = cc in ap (λ (x : Header). x.magic) (sym same)

@@ -1,5 +1,8 @@
 -- A slot of the expected length has room for a header, and a payload in it a length of 32 bits.
-use Rattle.std.proofs.Common.{◌≡◌, ℕ, ◌^◌, ◌≤◌, ◌&&◌, true, List, length, leb, eqb, leb-true, eqb-true, arith, pow_mono}
+use Rattle.std.proofs.Common.{◌≡◌, sym, ◌∙◌, take, ℕ, ◌^◌, ◌≤◌, ◌&&◌, true, List, length, leb, eqb, leb-true, eqb-true, arith, pow_mono}
+use Rattle.std.specs.Prelude.{nat_eq}
+use lib.Pointwise.{pointwise, bytes_decides}
+use Rattle.slot.specs.Header.{magic}
 use Rattle.slot.specs.Read.{is_slot_length, header_sum, passes_checksum}
 use Rattle.slot.specs.declared.header.Header.{Header}
 use Rattle.slot.proofs.Tests.{both}
@@ -27,3 +30,7 @@ unfolding passes_checksum
 passes_within s h is =
     let range = (both (leb 128 h.header_len && leb h.header_len (length s)) (eqb (header_sum s h.header_len) h.header_crc32c) is).0 in
     leb-true _ _ (both (leb 128 h.header_len) (leb h.header_len (length s)) range).1
+
+-- A magic that was compared stands in the slot that it was read of.
+pub stands : (s magic_read : List ℕ) → magic_read ≡ take 8 s → pointwise nat_eq magic_read magic ≡ true → take 8 s ≡ magic
+stands s magic_read is same = sym is ∙ (bytes_decides magic_read magic).0 same

@@ -1,5 +1,6 @@
 // What one slot's bytes hold: its status, and what its header shows whether or not the slot is valid.
-ghost use Rattle.std.specs.Prelude.{◌≡◌, ◌≤◌, length};
+ghost use Rattle.std.specs.Prelude.{◌≡◌, ◌≤◌, length, take};
+ghost use Rattle.slot.specs.Header.{magic};
 ghost use Rattle.slot.specs.Read.{is_slot_length, is_blank, number_ok, passes_checksum, is_malformed, is_misplaced, check, header_info, passes_payload, status, validate, facts, header_facts};
 
 use crate::header::{Header, read_header};
@@ -60,10 +61,11 @@ pub fn read_slot(slot: &[u8], e: &Expect) -> (SlotStatus, Option<HeaderFacts>)
 
 impl Header {
     // Every check up to the payload's CRC, in their order. `Err` carries the first status that fails.
-    #[tactic(auto, using(crate::proofs::Room::passes_within), unfolding(crate::specs::Read::check))]
+    #[tactic(auto, using(crate::proofs::Room::passes_within, crate::proofs::Room::stands), unfolding(crate::specs::Read::check))]
     #[inline(always)]
     fn check(&self, slot: &[u8], e: &Expect) -> Result<(), SlotStatus>
-        requires { 128 ≤ length slot.now }
+        requires size { 128 ≤ length slot.now }
+        requires stands { self.now.magic ≡ take 8 slot.now }
         ensures { result ≡ check slot.now self.now e.now }
     {
         if self.magic != MAGIC {
@@ -102,15 +104,17 @@ impl Header {
         Ok(())
     }
 
-    // Whether the header has the checksum that it stores, over the length that it says.
+    // Whether the header has the checksum that it stores, over the length that it says. The magic stands, so its bytes and the zeros
+    // behind it are summed when this is compiled.
     #[tactic(auto, unfolding(crate::specs::Read::passes_checksum, crate::specs::Read::header_sum))]
     fn passes_checksum(&self, slot: &[u8]) -> bool
-        requires { 128 ≤ length slot.now }
+        requires size { 128 ≤ length slot.now }
+        requires stands { take 8 slot.now ≡ magic }
         ensures { result ≡ passes_checksum slot.now self.now }
     {
         let len = usize::from(self.header_len);
         (HEADER_LEN..=slot.len()).contains(&len)
-            && crc32c_gap(&slot[..8], 4, &slot[12..len]) == self.header_crc32c
+            && crc32c_gap(&MAGIC, 4, &slot[12..len]) == self.header_crc32c
     }
 
     // Whether a field holds a value that is never written.

@@ -1,3 +1,4 @@
 pub mod ReadLaws
 pub mod JudgedLaws
 pub mod StepLaws
+pub mod TextExamples

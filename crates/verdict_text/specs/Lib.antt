@@ -2,3 +2,4 @@ pub mod Read
 pub mod Write
 pub mod Answer
 pub mod Steps
+pub mod Examples

@@ -1,5 +1,5 @@
 -- What the steps of `answer` leave of the text that a reader has.
-use Rattle.std.specs.Prelude.{◌≡◌, ℕ, ◌+◌, ltb, Bool, List, length, take, drop, IfSome, Some}
+use Rattle.std.specs.Prelude.{◌≡◌, ℕ, ◌+◌, nat_lt, Bool, List, length, take, drop, IfSome, Some}
 use Rattle.std.specs.declared.option.Option.{Option}
 
 -- The buffer's first n bytes are those of the text, as many as there is room for.
@@ -8,4 +8,4 @@ Fills old new n buffer = IfSome old (λ text. (take n buffer ≡ take (length bu
 
 -- The same, whether there are more than that, and one more is read.
 abbrev pub Reads : Option (List ℕ) → Option (List ℕ) → ℕ → Bool → List ℕ → Type 0
-Reads old new n more buffer = IfSome old (λ text. (take n buffer ≡ take (length buffer) text) × (more ≡ ltb (length buffer) (length text)) × (new ≡ Some (drop (length buffer + 1) text)))
+Reads old new n more buffer = IfSome old (λ text. (take n buffer ≡ take (length buffer) text) × (more ≡ nat_lt (length buffer) (length text)) × (new ≡ Some (drop (length buffer + 1) text)))

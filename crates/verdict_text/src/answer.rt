@@ -8,6 +8,7 @@ ghost use Rattle.verdict_text.specs.Read.{line_width};
 ghost use Rattle.verdict_text.specs.Write.{verdict_line, last_line};
 ghost use Rattle.verdict_text.specs.Answer.{refusal_number, is_long, judged, response_text, Left, Written, LosesFewer, AppendsFront, cause};
 ghost use Rattle.verdict_text.specs.Steps.{Fills, Reads};
+ghost use Rattle.verdict_text.specs.Examples.{TextExamples};
 
 use crate::read::{FRAME_LINE, read_store};
 use crate::write::{LAST_LINE, VERDICT_LINE, write_judgement, write_refusal};
@@ -213,6 +214,12 @@ fn is_long(held: usize, more: bool) -> bool
 {
     more || LONGEST < held
 }
+
+// Does nothing: its contract is the examples.
+#[tactic(auto, using(crate::proofs::TextExamples::text_examples))]
+pub fn examples()
+    ensures { TextExamples }
+{}
 
 #[cfg(test)]
 mod tests;
