@@ -47,7 +47,11 @@ pub fn run(program: &str, seed: u64, lists: u64) -> ExitCode {
         println!("fault of the driver:\n{}", faults.join("\n"));
         return ExitCode::FAILURE;
     }
-    println!("rows: {} cases in {lists} lists, rows of up to {} pairs, all equal", run.counts.total(), MOST_PAIRS.min(lists as usize));
+    println!(
+        "rows: {} cases in {lists} lists, rows of up to {} pairs, all equal",
+        run.counts.total(),
+        MOST_PAIRS.min(lists as usize)
+    );
     ExitCode::SUCCESS
 }
 
