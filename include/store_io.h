@@ -37,7 +37,8 @@
  *     192   sio_region_name
  *     256   sio_encode sio_judge
  *     320   sio_region_name_padded
- *     448   sio_header_facts sio_frame_slot sio_entry_name sio_entry_name_and_kind
+ *     448   sio_header_facts sio_entry_name sio_entry_name_and_kind
+ *     512   sio_frame_slot
  *     576   sio_validate
  *     640   sio_entry_to_raw
  *     704   sio_check_entry
