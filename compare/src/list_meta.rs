@@ -15,7 +15,7 @@
 //! | pen | page index (4), next_seq (4), count (2), BUFFER, entries | as ven |
 //! | ere | bytes | refusal, where not refused the fifteen numbers found (8 each) and the name (24) |
 //! | ewr | ENTRY, BUFFER | as ven |
-//! | ech | LIMITS, bytes | refusal, where not refused the thirteen numbers found (8 each), name (24) and its length (1) |
+//! | ech | LIMITS, bytes | refusal, where not refused the thirteen numbers found (8 each), name (24), its length (1) |
 //! | raw | LIMITS, bytes | refusal, where not refused the entry as it is stored (96) |
 //! | ena | bytes | refusal, where not refused the name (24) and its length (1) |
 //! | enk | bytes | refusal, where not refused the kind (1), the name (24) and its length (1) |
