@@ -15,7 +15,7 @@
 //! | pen | page index (4), next_seq (4), count (2), BUFFER, entries | as ven |
 //! | ere | bytes | refusal, where not refused the fifteen numbers found (8 each) and the name (24) |
 //! | ewr | ENTRY, BUFFER | as ven |
-//! | ech | LIMITS, bytes | refusal, where not refused the thirteen numbers found (8 each), the name (24) and its length (1) |
+//! | ech | LIMITS, bytes | refusal, where not refused the thirteen numbers found (8 each), name (24), its length (1) |
 //! | raw | LIMITS, bytes | refusal, where not refused the entry as it is stored (96) |
 //! | ena | bytes | refusal, where not refused the name (24) and its length (1) |
 //! | enk | bytes | refusal, where not refused the kind (1), the name (24) and its length (1) |
@@ -24,11 +24,12 @@
 //! The widths in bytes are in brackets.
 //!
 //! - BASE: log2 of the block size (1), log2 of the table slot's size (1), device index (2), owner generation (8), table
-//!   offset (8), created (8), features (8). VOLUME: BASE, table pages (4), entries per page (2), clean mark (4), flags (4).
+//!   offset (8), created (8), features (8).
+//! - VOLUME: BASE, table pages (4), entries per page (2), clean mark (4), flags (4).
 //! - BUFFER: a length (2), at most 1,024, and a byte (1); the buffer holds this byte everywhere before the call.
 //! - SIZES: log2 of the block size (1), log2 of the table slot's size (1), table pages (4).
-//! - ENTRY: seq (4), kind (1), state (1), flags (1), compatible flags (1), name (24), tag (4), extents (2), header A, header
-//!   B, data size, capacity, span start, span end, footprint number (8 each).
+//! - ENTRY: seq (4), kind (1), state (1), flags (1), compatible flags (1), name (24), tag (4), extents (2), header A,
+//!   header B, data size, capacity, span start, span end, footprint number (8 each).
 //! - LIMITS: log2 of the block size (1), table end, length of the file, the page's number (8 each).
 //!
 //! Bytes and entries go to the end of their field. At a refusal all that is lent is as it was.
@@ -294,13 +295,8 @@ fn reserved(list: &mut List, limits: &Limits, bytes: &[u8]) {
 }
 
 fn packed_limits(limits: &Limits) -> Vec<u8> {
-    [
-        limits.log2_block.packed(),
-        limits.table_end.packed(),
-        limits.file_len.packed(),
-        limits.page_meta_seq.packed(),
-    ]
-    .concat()
+    [limits.log2_block.packed(), limits.table_end.packed(), limits.file_len.packed(), limits.page_meta_seq.packed()]
+        .concat()
 }
 
 fn packed_entry(entry: &Entry) -> Vec<u8> {

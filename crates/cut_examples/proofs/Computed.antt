@@ -2,7 +2,7 @@
 -- that the frames, the verdicts and the records.
 use Rattle.std.proofs.Common.{◌≡◌, refl, ◌∙◌, Bool, true, false, cond, List, [], ◌∷◌, ℕ, replicate, Option, Some, None, Ok}
 use Rattle.codec.specs.Bytes.{le}
-use Rattle.codec.specs.Crc32c.{crc32c, finalRemainder, remainder, digest, reversed}
+use Rattle.codec.specs.Crc32c.{crc32c, final_remainder, remainder, digest, reversed}
 use Rattle.slot.specs.Payload.{payload as payload_of}
 use Rattle.slot.specs.Read.{is_slot_length, header_sum, passes_checksum, is_malformed, check, passes_payload}
 use Rattle.slot.specs.Write.{header_bytes, encode}
@@ -47,7 +47,7 @@ abbrev second_slot : List ℕ
 second_slot = summed_slot 0x2c8c_2a3c 0x3eb4_2e60 second_fields (page_record 1 0)
 
 payload_sums : (crc32c (volume_record false) ≡ 0x69eb_46ec) × (crc32c (page_record 1 0) ≡ 0x3eb4_2e60)
-unfolding volume_bytes page_header_bytes crc32c finalRemainder remainder digest reversed
+unfolding volume_bytes page_header_bytes crc32c final_remainder remainder digest reversed
 payload_sums = (refl, refl)
 
 volume_slot_is : (encode volume_fields (volume_record false) (replicate 512 0)).0 ≡ volume_slot
@@ -61,7 +61,7 @@ slots_read : (read_once volume_slot volume_pair.a.expect ≡ volume_read) × (re
     × (read_once old_page first_page.a.expect ≡ older_read) × (read_once newer_slot first_page.b.expect ≡ newer_read)
     × (read_once second_slot second_page.a.expect ≡ second_read) × (read_once blank_bytes second_page.b.expect ≡ blank_read)
     × (read_once new_page later_page.a.expect ≡ new_read)
-unfolding is_slot_length check passes_checksum is_malformed passes_payload payload_of header_sum header_bytes volume_bytes page_header_bytes le crc32c finalRemainder remainder digest reversed
+unfolding is_slot_length check passes_checksum is_malformed passes_payload payload_of header_sum header_bytes volume_bytes page_header_bytes le crc32c final_remainder remainder digest reversed
 slots_read = (refl, refl, refl, refl, refl, refl, refl)
 
 -- After no byte the slot of the page is the old one, and after the last the new one.
@@ -154,7 +154,7 @@ abbrev torn_second : SlotRead
 torn_second = torn_payload 2 5 0x24b0_a7e6 0x2c8c_2a3c
 
 torn_second_read : read_once (cut 140 next_page blank_bytes) second_page.b.expect ≡ torn_second
-unfolding cut is_slot_length check passes_checksum is_malformed passes_payload payload_of header_sum header_bytes page_header_bytes le crc32c finalRemainder remainder digest reversed
+unfolding cut is_slot_length check passes_checksum is_malformed passes_payload payload_of header_sum header_bytes page_header_bytes le crc32c final_remainder remainder digest reversed
 torn_second_read = refl
 
 torn_pair_read : PairRecord (with_slot SlotIndex.B (left (second_write 140)) second_page) (record { a = second_read; b = torn_second }) (page_record 1 0)
@@ -194,7 +194,7 @@ module _ (k : ℕ) (x : SlotRead) (read : read_once (cut k later_slot newer_slot
 -- ---- the cuts
 
 pub page_computed : PageCuts
-unfolding cut is_slot_length check passes_checksum is_malformed passes_payload payload_of header_sum header_bytes page_header_bytes le crc32c finalRemainder remainder digest reversed decide filled part_bytes judge_frames frames_left frames_error judgement verdicts row_rules first_verdicts first_tally
+unfolding cut is_slot_length check passes_checksum is_malformed passes_payload payload_of header_sum header_bytes page_header_bytes le crc32c final_remainder remainder digest reversed decide filled part_bytes judge_frames frames_left frames_error judgement verdicts row_rules first_verdicts first_tally
 page_computed =
     record {
       page_0 = page_at 0 older_read page_ends.0 refl refl page_accepted.1 refl refl;
@@ -209,7 +209,7 @@ page_computed =
     }
 
 pub volume_computed : VolumeCuts
-unfolding cut is_slot_length check passes_checksum is_malformed passes_payload payload_of header_sum header_bytes volume_bytes le crc32c finalRemainder remainder digest reversed decide filled part_bytes judge_frames frames_left frames_error judgement verdicts row_rules first_verdicts first_tally stands_whole
+unfolding cut is_slot_length check passes_checksum is_malformed passes_payload payload_of header_sum header_bytes volume_bytes le crc32c final_remainder remainder digest reversed decide filled part_bytes judge_frames frames_left frames_error judgement verdicts row_rules first_verdicts first_tally stands_whole
 volume_computed =
     record {
       volume_0 = volume_at 0 blank_read refl refl refl volume_accepted.0 false refl refl refl;
@@ -222,7 +222,7 @@ volume_computed =
     }
 
 pub other_computed : OtherCuts
-unfolding cut is_slot_length check passes_checksum is_malformed passes_payload payload_of header_sum header_bytes page_header_bytes le crc32c finalRemainder remainder digest reversed decide filled part_bytes judge_frames frames_left frames_error judgement verdicts row_rules first_verdicts first_tally
+unfolding cut is_slot_length check passes_checksum is_malformed passes_payload payload_of header_sum header_bytes page_header_bytes le crc32c final_remainder remainder digest reversed decide filled part_bytes judge_frames frames_left frames_error judgement verdicts row_rules first_verdicts first_tally
 other_computed =
     record {
       second_140 =

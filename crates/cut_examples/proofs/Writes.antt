@@ -3,7 +3,7 @@ use Rattle.std.proofs.Common.{◌≡◌, refl, sym, ap, subst, ◌∙◌, inl, i
 use borrow.Author.Tests.{not-true}
 use lib.Pointwise.{pointwise, bytes_decides}
 use Rattle.codec.specs.Bytes.{AllBytes, le, le16, le32}
-use Rattle.codec.specs.Crc32c.{crc32c, finalRemainder, remainder, digest, reversed}
+use Rattle.codec.specs.Crc32c.{crc32c, final_remainder, remainder, digest, reversed}
 use Rattle.codec.proofs.ByteLaws.{append-bytes, zero-bytes}
 use Rattle.slot.specs.Status.{index_number, other}
 use Rattle.slot.specs.Payload.{payload as payload_of}
@@ -96,8 +96,8 @@ module _ (object : ℕ) (index : SlotIndex) (generation prev number : ℕ) (obje
           record {
             slot = record { typed = typed_with (encode f payload (replicate 512 0)).0 written_bytes; format = refl; numbered = refl };
             valid = back.valid;
-            record_is = back.payload-same;
-            accepted = ap (accepts decoder) back.payload-same ∙ takes;
+            record_is = back.payload_same;
+            accepted = ap (accepts decoder) back.payload_same ∙ takes;
           }
 
 blank_sound : (object : ℕ) (index : SlotIndex) → object ≤ 2 → SoundSlot (blank_slot object index)
@@ -145,11 +145,11 @@ page_accepted = (refl, refl, refl, refl, refl, refl)
 
 -- The checksums of the first page's headers and payloads.
 older_sums : (header_crc older_fields (page_record 0 1) ≡ 0x588e_9174) × (crc32c (page_record 0 1) ≡ 0xb3b8_1b53)
-unfolding header_crc header_bytes page_header_bytes crc32c finalRemainder remainder digest reversed
+unfolding header_crc header_bytes page_header_bytes crc32c final_remainder remainder digest reversed
 older_sums = (refl, refl)
 
 newer_sums : (header_crc newer_fields (page_record 0 2) ≡ 0xe83c_e718) × (crc32c (page_record 0 2) ≡ 0xea7c_0394)
-unfolding header_crc header_bytes page_header_bytes crc32c finalRemainder remainder digest reversed
+unfolding header_crc header_bytes page_header_bytes crc32c final_remainder remainder digest reversed
 newer_sums = (refl, refl)
 
 -- `encode` refuses none of the slots.
@@ -369,7 +369,7 @@ page_correct =
     (page_fits 0 0x304)
 
 new_sums : (header_crc new_fields (page_record 0 0x304) ≡ 0xd61e_00d0) × (crc32c (page_record 0 0x304) ≡ 0x9755_91c2)
-unfolding header_crc header_bytes page_header_bytes crc32c finalRemainder remainder digest reversed
+unfolding header_crc header_bytes page_header_bytes crc32c final_remainder remainder digest reversed
 new_sums = (refl, refl)
 
 new_refusal : encode_check new_fields (page_record 0 0x304) 512 ≡ Ok tt
@@ -392,7 +392,7 @@ page_met : (k : ℕ) → cut_tests k new_page old_page (page_record 0 0x304) ≡
 page_met k = met_by (page_write k) sound (unmarked_with first_page) (page_correct k) refl old_page new_page old_page_is new_page_is
 
 pub page_cuts : PageMet
-unfolding cut header_sum header_bytes page_header_bytes le crc32c finalRemainder remainder digest reversed
+unfolding cut header_sum header_bytes page_header_bytes le crc32c final_remainder remainder digest reversed
 page_cuts =
     Every.more (page_met 0 refl)
     (Every.more (page_met 8 refl)
@@ -416,7 +416,7 @@ unfolding volume_record_bytes
 volume_length = refl
 
 pub volume_sum : header_crc volume_fields (volume_record false) ≡ 0x1d15_7c74
-unfolding header_crc header_bytes volume_record_bytes crc32c finalRemainder remainder digest reversed
+unfolding header_crc header_bytes volume_record_bytes crc32c final_remainder remainder digest reversed
 volume_sum = refl
 
 volume_correct : (k : ℕ) → CorrectWrite (volume_write k)
@@ -429,7 +429,7 @@ volume_correct =
     (rw volume_length (lit≤ tt))
 
 marked_sums : (header_crc marked_fields (volume_record true) ≡ 0x880c_0bb0) × (crc32c (volume_record true) ≡ 0xa2bd_3d49)
-unfolding header_crc header_bytes volume_record_bytes crc32c finalRemainder remainder digest reversed
+unfolding header_crc header_bytes volume_record_bytes crc32c final_remainder remainder digest reversed
 marked_sums = (refl, refl)
 
 marked_refusal : encode_check marked_fields (volume_record true) 512 ≡ Ok tt
@@ -449,7 +449,7 @@ volume_met : (k : ℕ) → cut_tests k marked_bytes blank_bytes (volume_record t
 volume_met k = met_by (volume_write k) sound (unmarked_with first_page) (volume_correct k) refl blank_bytes marked_bytes refl marked_bytes_is
 
 pub volume_cuts : VolumeMet
-unfolding cut header_sum header_bytes volume_record_bytes le crc32c finalRemainder remainder digest reversed
+unfolding cut header_sum header_bytes volume_record_bytes le crc32c final_remainder remainder digest reversed
 volume_cuts =
     Every.more (volume_met 0 refl)
     (Every.more (volume_met 8 refl)
@@ -473,11 +473,11 @@ volume_marks = (torn_handed (volume_write 191) (whole_at 191), whole_handed (vol
 -- ---- a write of a page over a Blank slot
 
 pub second_sum : header_crc second_fields (page_record 1 0) ≡ 0x2c8c_2a3c
-unfolding header_crc header_bytes page_header_bytes crc32c finalRemainder remainder digest reversed
+unfolding header_crc header_bytes page_header_bytes crc32c final_remainder remainder digest reversed
 second_sum = refl
 
 next_sums : (header_crc next_fields (page_record 1 1) ≡ 0x24b0_a7e6) × (crc32c (page_record 1 1) ≡ 0x09f7_d9dd)
-unfolding header_crc header_bytes page_header_bytes crc32c finalRemainder remainder digest reversed
+unfolding header_crc header_bytes page_header_bytes crc32c final_remainder remainder digest reversed
 next_sums = (refl, refl)
 
 next_refusal : encode_check next_fields (page_record 1 1) 512 ≡ Ok tt
@@ -500,7 +500,7 @@ pub next_page_is : (encode next_fields (page_record 1 1) (replicate 512 0)).0 �
 next_page_is = summed_is 2 SlotIndex.B 2 0x2c8c_2a3c 5 (page_record 1 1) 0x24b0_a7e6 0x09f7_d9dd next_refusal next_sums.0 next_sums.1
 
 pub second_cut : SecondMet
-unfolding cut header_sum header_bytes page_header_bytes le crc32c finalRemainder remainder digest reversed
+unfolding cut header_sum header_bytes page_header_bytes le crc32c final_remainder remainder digest reversed
 second_cut =
     met_by (second_write 140) sound (unmarked_with first_page) (second_correct 140) refl blank_bytes next_page refl next_page_is refl
 
@@ -530,7 +530,7 @@ pub stores_sound : StoresSound
 stores_sound = (sound, later_store_sound)
 
 later_sums : (header_crc later_fields (page_record 0 0x21b9_61ac) ≡ 0xe83c_e718) × (crc32c (page_record 0 0x21b9_61ac) ≡ 0x906d_1021)
-unfolding header_crc header_bytes page_header_bytes crc32c finalRemainder remainder digest reversed
+unfolding header_crc header_bytes page_header_bytes crc32c final_remainder remainder digest reversed
 later_sums = (refl, refl)
 
 later_refusal : encode_check later_fields (page_record 0 0x21b9_61ac) 512 ≡ Ok tt
@@ -567,7 +567,7 @@ later_met k =
     met_by (later_write k) later_store_sound (unmarked_with later_page) (later_correct k) refl newer_slot later_slot newer_slot_is later_slot_is
 
 pub later_cuts : LaterMet
-unfolding cut header_sum header_bytes page_header_bytes le crc32c finalRemainder remainder digest reversed
+unfolding cut header_sum header_bytes page_header_bytes le crc32c final_remainder remainder digest reversed
 later_cuts = Every.more (later_met 64 refl) (Every.more (later_met 133 refl) Every.none)
 
 -- ---- the hypotheses are the theorem's

@@ -1,4 +1,4 @@
--- What is judged and read back after a cut, and how a slot is read.
+-- What is judged and read back after a cut (docs/FORMAT.md, "The sound store and the cut"), and how a slot is read.
 use Rattle.std.specs.Prelude.{◌≡◌, Bool, true, false, List, [], ◌∷◌, ℕ, replicate, Option, Some, None, Ok}
 use Rattle.slot.specs.declared.slot.SlotIndex.{SlotIndex}
 use Rattle.slot.specs.declared.slot.SlotStatus.{SlotStatus}

@@ -1,4 +1,5 @@
--- Two stores of three pairs, the volume record and two pages, in slots of 512 bytes. The checksums that a slot names are written as numbers.
+-- Two stores of three pairs, the volume record and two pages, in slots of 512 bytes (docs/FORMAT.md, "The sound store and the cut"). The
+-- checksums that a slot names are written as numbers.
 use Rattle.std.specs.Prelude.{Bool, true, false, List, [], ◌∷◌, ◌++◌, ℕ, ◌+◌, ◌*◌, replicate}
 use Rattle.slot.specs.Status.{index_number}
 use Rattle.slot.specs.Write.{encode}

@@ -1,4 +1,5 @@
--- The cut theorem is not empty: four writes to the stores of Stores.antt, cut at nineteen places, meet every hypothesis of it.
+-- The cut theorem is not empty (docs/FORMAT.md, "The sound store and the cut"): four writes to the stores of Stores.antt, cut at nineteen
+-- places, meet every hypothesis of it.
 use Rattle.std.specs.Prelude.{◌≡◌, true, false, List, [], ◌∷◌, ℕ, ◌*◌, length, replicate}
 use Rattle.slot.specs.declared.slot.SlotIndex.{SlotIndex}
 use Rattle.slot.specs.declared.slot.SlotFields.{SlotFields}

@@ -1,4 +1,4 @@
--- Examples of the store verdict over frames.
+-- Examples of the store verdict over frames (docs/FORMAT.md, "The store verdict" and "Refusals").
 use Rattle.std.specs.Prelude.{◌≡◌, true, false, List, [], ◌∷◌, ◌++◌, ℕ, replicate, Option, Some, None, Ok}
 use Rattle.std.specs.Option.{option_map}
 use Rattle.slot.specs.declared.slot.SlotIndex.{SlotIndex}
@@ -32,15 +32,15 @@ pub record JudgeExamples : Type 0 where
   pub answer : judge_frames (volume_frame ++ page_frame) 0 8
       ≡ Ok (record { heal = Some (1, SlotIndex.B); writable = true; clean = false; refused = false })
   pub verdicts : frames_left (volume_frame ++ page_frame) 0 (replicate 8 0) ≡ 0 ∷ 1 ∷ 0 ∷ 1 ∷ 0 ∷ 1 ∷ 0 ∷ 3 ∷ []
-  pub marked-answer : judge_frames (volume_frame ++ page_frame) 1 8
+  pub marked_answer : judge_frames (volume_frame ++ page_frame) 1 8
       ≡ Ok (record { heal = None; writable = true; clean = true; refused = false })
-  pub marked-verdicts : frames_left (volume_frame ++ page_frame) 1 (replicate 8 0) ≡ 0 ∷ 1 ∷ 0 ∷ 1 ∷ 1 ∷ 1 ∷ 0 ∷ 4 ∷ []
+  pub marked_verdicts : frames_left (volume_frame ++ page_frame) 1 (replicate 8 0) ≡ 0 ∷ 1 ∷ 0 ∷ 1 ∷ 1 ∷ 1 ∷ 0 ∷ 4 ∷ []
   -- Beside damage a page is Unconfirmed.
-  pub damaged-verdicts : frames_left (volume_frame ++ damaged_frame) 0 (replicate 8 0) ≡ 0 ∷ 1 ∷ 0 ∷ 1 ∷ 1 ∷ 1 ∷ 0 ∷ 4 ∷ []
+  pub damaged_verdicts : frames_left (volume_frame ++ damaged_frame) 0 (replicate 8 0) ≡ 0 ∷ 1 ∷ 0 ∷ 1 ∷ 1 ∷ 1 ∷ 0 ∷ 4 ∷ []
   -- Errors in their order: no pair; part of a frame; no room for the verdicts; a mark, a code, a facts byte out of range. Then none.
-  pub no-pair : refusal [] 2 1 ≡ Some 8
-  pub not-frames : refusal (replicate 51 0xff) 2 1 ≡ Some 10
-  pub room-first : refusal (replicate 52 0xff) 2 1 ≡ Some 9
+  pub no_pair : refusal [] 2 1 ≡ Some 8
+  pub not_frames : refusal (replicate 51 0xff) 2 1 ≡ Some 10
+  pub room_first : refusal (replicate 52 0xff) 2 1 ≡ Some 9
   pub mark : refusal (replicate 52 0) 2 4 ≡ Some 10
   pub code : refusal (13 ∷ replicate 51 0) 0 4 ≡ Some 10
   pub facts : refusal (0 ∷ 3 ∷ replicate 50 0) 0 4 ≡ Some 10

@@ -1,4 +1,4 @@
--- What is kept of a verdict is read back, and so many verdicts fit.
+-- What is kept of a verdict (docs/FORMAT.md, "The store verdict") is read back, and so many verdicts fit.
 use Rattle.std.proofs.Common.{◌≡◌, refl, true, ℕ, zero, suc, ◌*◌, eqb, eqb-true, arith, List, [], ◌∷◌, length, Option, Some, None}
 use Rattle.slot.specs.declared.slot.SlotIndex.{SlotIndex}
 use Rattle.judge.specs.declared.verdict.SlotVerdict.{SlotVerdict}

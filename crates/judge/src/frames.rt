@@ -11,6 +11,7 @@ ghost use Rattle.std.specs.Prelude.{◌≡◌, ◌*◌, ◌==◌, length};
 ghost use Rattle.judge.specs.Part.{part_width, part_at};
 ghost use Rattle.judge.specs.Frames.{verdict_width, verdict_bytes, verdict_from, verdict_cells, pair_from, pair_in_range, judge_frames, frames_left};
 ghost use Rattle.judge.specs.Examples.{JudgeExamples};
+ghost use Rattle.judge.specs.Table.{Table};
 ghost use Rattle.judge.specs.ReadBack.{reads_back, cells_fit};
 
 use crate::pairs::Pair;
@@ -125,8 +126,9 @@ pub fn judge(frames: &[u8], clean: u8, out: &mut [u8]) -> Result<Judgement, Judg
     answer
 }
 
-// Does nothing: its contract is the examples.
-#[tactic(auto, using(crate::proofs::JudgeExamples::judge_examples))]
+// Does nothing: its contract is the examples, and the table of a frame's layout and of the numbers.
+#[tactic(auto, using(crate::proofs::JudgeExamples::judge_examples, crate::proofs::JudgeExamples::table))]
 pub fn examples()
-    ensures { JudgeExamples }
+    ensures examples { JudgeExamples }
+    ensures table { Table }
 {}

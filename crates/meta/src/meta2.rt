@@ -59,6 +59,8 @@ use codec::codec::{Reader, Writer};
 
 /// Encoded length of [`VolumeMeta2`].
 pub const VOLUME_META2_LEN: usize = 64;
+/// Length of the header of the slot that a page lies in.
+const SLOT_HEADER_LEN: usize = 128;
 /// Length of a table page's header.
 pub const PAGE_HEADER_LEN: usize = 24;
 /// Length of one table entry.
@@ -85,7 +87,8 @@ pub fn block_size(log2: u8) -> u64
 pub fn entries_per_page(log2_table: u8) -> u16
     ensures { result ≡ entries_per_page log2_table }
 {
-    ((block_size(log2_table) - 128 - 24) / 96) as u16
+    let room = block_size(log2_table) as usize - SLOT_HEADER_LEN - PAGE_HEADER_LEN;
+    (room / ENTRY2_LEN) as u16
 }
 
 /// The format-2 volume record.

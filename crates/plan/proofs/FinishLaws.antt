@@ -79,7 +79,7 @@ module _ (w : Write) (sound : Sound (store w)) (correct : CorrectWrite w) where
   fresh_valid = put_status w.pair (new w) w.index ∙ ap (validate (new w)) (sym (expect_is w pair_sound correct)) ∙ read_back.valid
 
   fresh_payload : payload_of fresh (slot_at w.index q).bytes ≡ w.payload
-  fresh_payload = ap (payload_of fresh) (put_bytes w.pair (new w) w.index) ∙ read_back.payload-same
+  fresh_payload = ap (payload_of fresh) (put_bytes w.pair (new w) w.index) ∙ read_back.payload_same
 
   winner_kept : status (slot_at (other w.index) q) ≡ SlotStatus.Valid correct.winner
   winner_kept = kept_status w.pair (new w) w.index ∙ winner_valid w pair_sound correct

@@ -97,4 +97,4 @@ module _ (m : ℕ) (s t : List ℕ) (h : SameHeader m s t) where
       statuses = simp (header_layout s, header_layout t, h.sizes) (go (ltb (length t) 128))
 
 pub padding_law : PaddingLaw
-padding_law = record { facts-same = facts_same; status-same = status_same }
+padding_law = record { facts_same = facts_same; status_same = status_same }

@@ -179,7 +179,7 @@ module _ (f : SlotFields) (payload : List ℕ) (room : ℕ) (fits : Fits f) (non
         valid =
             valid_written proper_is payload behind payload_small
             (simp (le-leb _ _ known.log2-low, le-leb _ _ known.log2-high) (eq-eqb _ _ all));
-        payload-same = payload_written proper_is payload behind payload_small;
+        payload_same = payload_written proper_is payload behind payload_small;
       }
 
 pub round_trip : RoundTrip
@@ -195,7 +195,7 @@ round_trip =
           let size : 128 + length payload + length padding ≡ room =
           omega (arith, large.0, known.size, known.payload-fits, length-replicate {A = ℕ} (2 ^ f.log2_slot_size - 128 - length payload) 0) in
           rw none (read_back f payload room fits none numbered number padding size);
-      whatever-behind =
+      whatever_behind =
           λ f payload behind numbered fits none number.
           read_back f payload (128 + length payload + length behind) fits none numbered number behind refl;
     }

@@ -8,10 +8,10 @@ pub table : Table
 unfolding le header_bytes
 table =
     record {
-      fields-read = refl;
-      fields-written = refl;
-      statuses-numbered = λ known. refl;
-      errors-numbered = refl;
-      indexes-stored = refl;
-      indexes-numbered = refl;
+      fields_read = refl;
+      fields_written = refl;
+      statuses_numbered = λ known. refl;
+      errors_numbered = refl;
+      indexes_stored = refl;
+      indexes_numbered = refl;
     }

@@ -1,5 +1,5 @@
--- The laws of a slot: which bytes its status and its header's facts depend on, the statuses that there are, and what is read back of a slot
--- that was written.
+-- The laws of a slot (docs/FORMAT.md, "Slot status", "Header facts" and "Writing a slot"): which bytes its status and its header's facts
+-- depend on, the statuses that there are, and what is read back of a slot that was written.
 use Rattle.std.specs.Prelude.{◌≡◌, ◌≤◌, ◌<◌, ◌+◌, ◌^◌, Bool, true, List, ◌++◌, ℕ, length, take, replicate, Ok}
 use Rattle.codec.specs.Bytes.{le16}
 use Rattle.codec.specs.Crc32c.{crc32c}
@@ -23,8 +23,8 @@ pub record SameHeader (m : ℕ) (s t : List ℕ) : Type 0 where
 
 -- Such slots show the same, and have the same status where they have the same payload: the bytes behind the payload do not count.
 pub record PaddingLaw : Type 0 where
-  pub facts-same : (m : ℕ) (s t : List ℕ) → SameHeader m s t → (e : Expect) → header_facts s e ≡ header_facts t e
-  pub status-same : (m : ℕ) (s t : List ℕ) → SameHeader m s t → (e : Expect)
+  pub facts_same : (m : ℕ) (s t : List ℕ) → SameHeader m s t → (e : Expect) → header_facts s e ≡ header_facts t e
+  pub status_same : (m : ℕ) (s t : List ℕ) → SameHeader m s t → (e : Expect)
       → (check s (header s) e ≡ Ok tt → payload_of (header_info (header s)) s ≡ payload_of (header_info (header s)) t)
       → validate s e ≡ validate t e
 
@@ -93,13 +93,13 @@ info_of f payload = header_info (stored_header (header_crc f payload) f (length 
 -- A slot is Valid with these fields and this payload.
 pub record IsReadBack (s : List ℕ) (f : SlotFields) (payload : List ℕ) (numbered : Bool) : Type 0 where
   pub valid : validate s (expect_of f numbered) ≡ SlotStatus.Valid (info_of f payload)
-  pub payload-same : payload_of (info_of f payload) s ≡ payload
+  pub payload_same : payload_of (info_of f payload) s ≡ payload
 
 -- What `encode` does not refuse is read back by a reader that expects it: of the buffer that it wrote, and whatever stands behind the
 -- payload.
 pub record RoundTrip : Type 0 where
   pub written : (f : SlotFields) (payload buffer : List ℕ) (numbered : Bool) → Fits f → encode_check f payload (length buffer) ≡ Ok tt
       → number_ok f.format_major numbered f.meta_seq ≡ true → IsReadBack (encode f payload buffer).0 f payload numbered
-  pub whatever-behind : (f : SlotFields) (payload behind : List ℕ) (numbered : Bool) → Fits f
+  pub whatever_behind : (f : SlotFields) (payload behind : List ℕ) (numbered : Bool) → Fits f
       → encode_check f payload (128 + length payload + length behind) ≡ Ok tt
       → number_ok f.format_major numbered f.meta_seq ≡ true → IsReadBack (written_header f payload ++ (payload ++ behind)) f payload numbered

@@ -31,6 +31,10 @@ status_values (SlotStatus.Incompatible flags) = flags ∷ replicate 8 0
 status_values (SlotStatus.Valid i) = info_values i
 status_values _ = replicate 9 0
 
+-- The number of a status and its values.
+abbrev pub status_numbers : SlotStatus → List ℕ
+status_numbers s = code s ∷ status_values s
+
 -- The status with a number from 0 to 12; of a valid slot these facts.
 abbrev pub status_of : ℕ → SlotInfo → Option SlotStatus
 status_of c i =

@@ -1,4 +1,4 @@
--- Where a payload stands: behind the header, and nowhere in a buffer too short for it.
+-- Where a payload stands (docs/FORMAT.md, "The winner's payload"): behind the header, and nowhere in a buffer too short for it.
 use Rattle.std.specs.Prelude.{ℕ, ◌+◌, List, length, take, drop, nat_lt, if◌then◌else◌}
 use Rattle.slot.specs.declared.slot.SlotInfo.{SlotInfo}
 

@@ -1,4 +1,5 @@
--- The layout of the header and the numbers of its enums, spelled out: bytes that count up show each field's place and width.
+-- The layout of the header and the numbers of its enums (docs/FORMAT.md, "The slot" and "Slot status"), spelled out: bytes that count up
+-- show each field's place and width.
 use Rattle.std.specs.Prelude.{◌≡◌, ℕ, zero, suc, ◌+◌, List, [], ◌∷◌, ◌++◌, map, replicate}
 use Rattle.slot.specs.Status.{index_number, slot_number, code, error_number}
 use Rattle.slot.specs.Header.{header}
@@ -77,9 +78,9 @@ abbrev pub errors : List EncodeError
 errors = EncodeError.SlotSize ∷ EncodeError.BufferLength ∷ EncodeError.PayloadTooLarge ∷ EncodeError.ZeroGeneration ∷ EncodeError.Format ∷ []
 
 pub record Table : Type 0 where
-  pub fields-read : header (count 128 0) ≡ counted
-  pub fields-written : header_bytes counted.header_crc32c counted_fields counted.payload_len counted.payload_crc32c ≡ counted_bytes
-  pub statuses-numbered : (known : SlotInfo) → map code (statuses known) ≡ 0 ∷ 1 ∷ 2 ∷ 3 ∷ 4 ∷ 5 ∷ 6 ∷ 7 ∷ 8 ∷ 9 ∷ 10 ∷ 11 ∷ 12 ∷ []
-  pub errors-numbered : map error_number errors ≡ 1 ∷ 2 ∷ 3 ∷ 4 ∷ 5 ∷ []
-  pub indexes-stored : map index_number (SlotIndex.A ∷ SlotIndex.B ∷ []) ≡ 0 ∷ 1 ∷ []
-  pub indexes-numbered : map slot_number (SlotIndex.A ∷ SlotIndex.B ∷ []) ≡ 1 ∷ 2 ∷ []
+  pub fields_read : header (count 128 0) ≡ counted
+  pub fields_written : header_bytes counted.header_crc32c counted_fields counted.payload_len counted.payload_crc32c ≡ counted_bytes
+  pub statuses_numbered : (known : SlotInfo) → map code (statuses known) ≡ 0 ∷ 1 ∷ 2 ∷ 3 ∷ 4 ∷ 5 ∷ 6 ∷ 7 ∷ 8 ∷ 9 ∷ 10 ∷ 11 ∷ 12 ∷ []
+  pub errors_numbered : map error_number errors ≡ 1 ∷ 2 ∷ 3 ∷ 4 ∷ 5 ∷ []
+  pub indexes_stored : map index_number (SlotIndex.A ∷ SlotIndex.B ∷ []) ≡ 0 ∷ 1 ∷ []
+  pub indexes_numbered : map slot_number (SlotIndex.A ∷ SlotIndex.B ∷ []) ≡ 1 ∷ 2 ∷ []

@@ -1,6 +1,7 @@
 // What one slot's bytes hold: its status, and what its header shows whether or not the slot is valid.
 ghost use Rattle.std.specs.Prelude.{◌≡◌, ◌≤◌, length, take};
 ghost use Rattle.slot.specs.Header.{magic};
+ghost use Rattle.slot.specs.Numbers.{status_numbers};
 ghost use Rattle.slot.specs.Read.{is_slot_length, is_blank, number_ok, passes_checksum, is_malformed, is_misplaced, check, header_info, passes_payload, status, validate, facts, header_facts};
 
 use crate::header::{Header, read_header};
@@ -13,7 +14,8 @@ use codec::crc32c::{crc32c, crc32c_gap};
 // Validates one slot read from `e.slot_offset`.
 #[tactic(auto, using(crate::proofs::Room::room), unfolding(crate::specs::Read::validate))]
 pub fn validate(slot: &[u8], e: &Expect) -> SlotStatus
-    ensures { result ≡ validate slot.now e.now }
+    ensures value { result ≡ validate slot.now e.now }
+    ensures numbers { status_numbers result ≡ status_numbers (validate slot.now e.now) }
 {
     if !is_slot_length(slot.len(), e.log2_slot_size) {
         return SlotStatus::BadLength;

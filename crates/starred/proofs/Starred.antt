@@ -1,7 +1,7 @@
 -- The examples, computed as one fact; and the capacities of a page.
 use Rattle.std.proofs.Common.{refl}
 use Rattle.codec.specs.Bytes.{le}
-use Rattle.codec.specs.Crc32c.{crc32c, finalRemainder, remainder, digest, reversed}
+use Rattle.codec.specs.Crc32c.{crc32c, final_remainder, remainder, digest, reversed}
 use Rattle.slot.specs.Write.{encode_check}
 use Rattle.judge.specs.Judge.{first_verdicts, first_tally, row_rules, verdicts, judgement}
 use Rattle.meta.specs.Block.{block_size, entries_per_page}
@@ -11,7 +11,7 @@ use Rattle.meta.specs.Page.{header_at, entries, decode_page}
 use Rattle.starred.specs.Starred.{Starred, Capacities}
 
 pub starred : Starred
-unfolding crc32c finalRemainder remainder digest reversed entries_per_page block_size encode_check first_verdicts first_tally row_rules verdicts judgement decode_page header_at entries le name_of is_name utf8 utf8_octets
+unfolding crc32c final_remainder remainder digest reversed entries_per_page block_size encode_check first_verdicts first_tally row_rules verdicts judgement decode_page header_at entries le name_of is_name utf8 utf8_octets
 starred =
     record {
       no_bytes = refl;

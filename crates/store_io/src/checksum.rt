@@ -1,6 +1,6 @@
 // CRC-32C for C hosts.
 ghost use Rattle.std.specs.Prelude.{◌≡◌, ◌++◌, replicate};
-ghost use Rattle.codec.specs.Crc32c.{crc32c, crc32cAppend};
+ghost use Rattle.codec.specs.Crc32c.{crc32c, crc32c_append};
 
 // The checksum of `bytes`.
 #[unsafe(no_mangle)]
@@ -13,7 +13,7 @@ pub extern "C" fn sio_crc32c(bytes: &[u8]) -> u32
 // The checksum `crc` carried on over `bytes`.
 #[unsafe(no_mangle)]
 pub extern "C" fn sio_crc32c_append(crc: u32, bytes: &[u8]) -> u32
-    ensures { result ≡ crc32cAppend crc bytes.now }
+    ensures { result ≡ crc32c_append crc bytes.now }
 {
     codec::crc32c::crc32c_append(crc, bytes)
 }

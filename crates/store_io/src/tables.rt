@@ -8,7 +8,7 @@ pub fn arguments_table()
 {}
 
 // and where a C host finds the numbers of what is answered.
-#[tactic(auto, unfolding(crate::specs::Pairs::report_bytes, pair::specs::Numbers::report_numbers))]
+#[tactic(auto, unfolding(crate::specs::Pairs::report_bytes, pair::specs::Numbers::report_numbers, pair::specs::Pair::decide))]
 pub fn numbers_table()
     ensures slots { SlotPlaces }
     ensures pairs { PairPlaces }

@@ -1,0 +1,48 @@
+-- A frame's layout and the numbers of the judge's enums, spelled out (docs/FORMAT.md, "Frames", "The store verdict" and "Refusals"): bytes that
+-- count up show each field's place and width.
+use Rattle.std.specs.Prelude.{◌≡◌, ℕ, [], ◌∷◌, map}
+use Rattle.slot.specs.Table.{count}
+use Rattle.judge.specs.declared.pairs.Version.{Version}
+use Rattle.judge.specs.declared.pairs.Shown.{Shown}
+use Rattle.judge.specs.declared.verdict.SlotVerdict.{SlotVerdict}
+use Rattle.judge.specs.declared.verdict.Standing.{Standing}
+use Rattle.judge.specs.declared.verdict.JudgeError.{JudgeError}
+use Rattle.judge.specs.Part.{part_at, part_bytes, part_shown}
+use Rattle.judge.specs.Values.{standing_number, slot_verdict_number, error_number}
+
+-- What 26 bytes stand for that count up from 0, and from 26.
+abbrev pub counted : Version
+counted =
+    record {
+      generation = 0x0908_0706_0504_0302;
+      meta_seq = 0x1110_0F0E_0D0C_0B0A;
+      header_crc32c = 0x1514_1312;
+      prev_header_crc32c = 0x1918_1716;
+    }
+
+abbrev pub counted_on : Version
+counted_on =
+    record {
+      generation = 0x2322_2120_1F1E_1D1C;
+      meta_seq = 0x2B2A_2928_2726_2524;
+      header_crc32c = 0x2F2E_2D2C;
+      prev_header_crc32c = 0x3332_3130;
+    }
+
+-- What each status shows beside facts 2.
+abbrev pub shown_by : ℕ → Shown
+shown_by c = part_shown (record { code = c; facts = 2; version = counted })
+
+pub record Table : Type 0 where
+  pub part_read : part_at (count 26 0) 0 ≡ record { code = 0; facts = 1; version = counted }
+  pub part_written : part_bytes (record { code = 0; facts = 1; version = counted }) ≡ count 26 0
+  pub second_read : part_at (count 52 0) 26 ≡ record { code = 26; facts = 27; version = counted_on }
+  pub standings : map standing_number (Standing.Confirmed ∷ Standing.Unconfirmed ∷ Standing.Lost ∷ Standing.Refused ∷ []) ≡ 0 ∷ 1 ∷ 2 ∷ 3 ∷ []
+  pub verdicts :
+      map slot_verdict_number (SlotVerdict.Winner ∷ SlotVerdict.Nothing ∷ SlotVerdict.OlderDamaged ∷ SlotVerdict.InFlight ∷ SlotVerdict.Damage ∷ [])
+      ≡ 0 ∷ 1 ∷ 2 ∷ 3 ∷ 4 ∷ []
+  pub errors : map error_number (JudgeError.Empty ∷ JudgeError.OutputLength ∷ JudgeError.OutOfRange ∷ []) ≡ 8 ∷ 9 ∷ 10 ∷ []
+  pub shown :
+      map shown_by (0 ∷ 1 ∷ 2 ∷ 3 ∷ 4 ∷ 5 ∷ 6 ∷ 7 ∷ 8 ∷ 9 ∷ 10 ∷ 11 ∷ 12 ∷ [])
+      ≡ Shown.Other ∷ Shown.Other ∷ Shown.Blank ∷ Shown.Other ∷ Shown.BadHeader 0x1514_1312 ∷ Shown.Unsupported ∷ Shown.Unsupported ∷ Shown.Other
+      ∷ Shown.Other ∷ Shown.Other ∷ Shown.Other ∷ Shown.BadPayload counted ∷ Shown.Valid counted ∷ []
