@@ -1,11 +1,10 @@
 -- What is kept of a write with the identities that a C host's numbers stand for.
-use Rattle.std.proofs.Common.{◌≡◌, refl, sym, ap, subst, ◌∙◌, List, ℕ, Option, Result}
+use Rattle.std.proofs.Common.{◌≡◌, ap, subst, List, ℕ, Option, Result}
 use Rattle.slot.specs.declared.slot.Expect.{Expect}
 use Rattle.plan.specs.declared.error.PlanError.{PlanError}
 use Rattle.plan.specs.declared.write.Plan.{Plan}
 use Rattle.plan.specs.Next.{next_write}
 use Rattle.plan.specs.Promise.{SurvivesCuts}
-use Rattle.store_io.specs.Planning.{next_found, next_answer}
 
 abbrev Answer : Type 0
 Answer = Result (Option (Plan × ℕ)) PlanError

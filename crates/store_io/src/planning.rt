@@ -115,7 +115,16 @@ fn numbered_slot(
 ) -> Expect
     ensures { result ≡ numbered_slot volume0 volume1 object_id slot_offset index log2_slot_size }
 {
-    expect_of(volume0, volume1, object_id, slot_offset, index, log2_slot_size, 2, 1)
+    expect_of(
+        volume0,
+        volume1,
+        object_id,
+        slot_offset,
+        index,
+        log2_slot_size,
+        2,
+        1,
+    )
 }
 
 // Hands over a plan and the header's checksum.
@@ -163,6 +172,15 @@ pub extern "C" fn sio_next_write(
 {
     let a = numbered_slot(volume0, volume1, object_id, a_offset, 0, log2_slot_size);
     let b = numbered_slot(volume0, volume1, object_id, b_offset, 1, log2_slot_size);
-    let made = next_write(frames, pair, &a, &b, owner_generation, compat_flags, payload, slot);
+    let made = next_write(
+        frames,
+        pair,
+        &a,
+        &b,
+        owner_generation,
+        compat_flags,
+        payload,
+        slot,
+    );
     give(made, plan, header_crc32c)
 }

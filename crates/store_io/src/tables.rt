@@ -1,5 +1,6 @@
 // The places of C's numbers. The functions do nothing: their contracts are the tables.
 ghost use Rattle.store_io.specs.Tables.{ArgumentPlaces, SlotPlaces, PairPlaces, JudgementPlaces, RecordPlaces, EntryPlaces};
+ghost use Rattle.store_io.specs.Planning.{PlanPlaces};
 
 // What a number stands for that a C host hands over,
 #[tactic(auto, unfolding(crate::specs::Arguments::volume_id))]
@@ -13,6 +14,7 @@ pub fn numbers_table()
     ensures slots { SlotPlaces }
     ensures pairs { PairPlaces }
     ensures judgements { JudgementPlaces }
+    ensures plans { PlanPlaces }
     ensures records { RecordPlaces }
     ensures entries { EntryPlaces }
 {}
