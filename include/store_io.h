@@ -32,15 +32,15 @@
  *           sio_read_array16 sio_read_array24 sio_write_u8 sio_write_u16 sio_write_u32 sio_write_u64 sio_volume_decode
  *           sio_volume_base_decode sio_volume_base_encode sio_entries_per_page sio_table_end sio_check_file_len
  *           sio_decode_page sio_reserved_span
- *     128   sio_crc32c_gap sio_write_bytes sio_write_zeros sio_decide sio_volume_encode sio_encode_page sio_read_entry
- *           sio_write_entry
- *     192   sio_next_number sio_heal_number sio_region_name
- *     256   sio_judge sio_plan_write
+ *     128   sio_crc32c_gap sio_write_bytes sio_write_zeros sio_decide sio_next_number sio_heal_number sio_plan_write
+ *           sio_volume_encode sio_encode_page sio_read_entry sio_write_entry
+ *     192   sio_region_name
+ *     256   sio_judge
  *     320   sio_encode sio_region_name_padded
  *     384   sio_plan_heal
- *     448   sio_header_facts sio_entry_name sio_entry_name_and_kind
+ *     448   sio_header_facts sio_next_write sio_entry_name sio_entry_name_and_kind
  *     512   sio_frame_slot
- *     576   sio_validate sio_next_write
+ *     576   sio_validate
  *     640   sio_entry_to_raw
  *     704   sio_check_entry
  *     896   sio_winner_payload

@@ -9,6 +9,7 @@ use judge::part::SlotPart;
 use pair::pair::{PairReport, decide};
 use slot::slot::{SlotInfo, SlotStatus};
 
+#[inline(always)]
 pub(crate) fn is_in_range(frame: &[u8; FRAME]) -> bool
     ensures { result ≡ pair_in_range frame.now }
 {
@@ -17,6 +18,7 @@ pub(crate) fn is_in_range(frame: &[u8; FRAME]) -> bool
 }
 
 // What the slots show the judge.
+#[inline(always)]
 pub(crate) fn shown(frame: &[u8; FRAME]) -> Pair
     ensures { result ≡ pair_from frame.now }
 {
