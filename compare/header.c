@@ -34,6 +34,12 @@ static const function functions[] = {
 
     (function)&sio_judge,
 
+    (function)&sio_next_number,
+    (function)&sio_heal_number,
+    (function)&sio_plan_write,
+    (function)&sio_plan_heal,
+    (function)&sio_next_write,
+
     (function)&sio_region_name,
     (function)&sio_region_name_padded,
 

@@ -2,7 +2,8 @@
  *
  *     host make IMAGE               makes a sound store
  *     host judge IMAGE              reads every slot, judges the store, prints verdicts and records
- *     host heal IMAGE COPY          writes a copy in which the slot that the judge names for healing is written anew
+ *     host heal IMAGE COPY [K]      writes a copy in which the slot that the judge names for healing is written anew; where K is
+ *                                   given, a power cut ended that write after K bytes
  *     host close IMAGE COPY         writes a copy with the clean mark in its volume record
  *     host cut IMAGE COPY PAIR K    writes a copy in which a power cut ended a write to a pair after K bytes
  *
@@ -41,9 +42,8 @@ enum { DONE, FAULT, USAGE, IO };
 #define BLOCK (UINT64_C(1) << LOG2_BLOCK)
 #define MAX_SLOT 65536
 #define MAX_PAGES 1024
-#define PART 26      /* bytes of a frame for one slot */
-#define NUMBER_AT 10 /* where its number lies */
-#define ENTRY 96     /* bytes of a table entry */
+#define PART 26  /* bytes of a frame for one slot */
+#define ENTRY 96 /* bytes of a table entry */
 
 #define FORMAT 2
 #define NUMBERED 1
@@ -109,7 +109,7 @@ static int fault(const char *what) {
 }
 
 static int usage(void) {
-    fprintf(stderr, "usage: host make IMAGE | judge IMAGE | heal IMAGE COPY | close IMAGE COPY | cut IMAGE COPY PAIR K\n");
+    fprintf(stderr, "usage: host make IMAGE | judge IMAGE | heal IMAGE COPY [K] | close IMAGE COPY | cut IMAGE COPY PAIR K\n");
     return USAGE;
 }
 
@@ -342,42 +342,37 @@ static int print_store(struct store *store, char **words) {
 
 /* ---- Writing ---- */
 
-/* The highest number of all winners. In a sound store the one slot that may have a higher one is the torn slot. */
-static uint64_t highest_number(const struct store *store) {
-    uint64_t highest = 0;
-    for (size_t pair = 0; pair < store->pairs; pair++) {
-        uint8_t winner = verdicts[pair][1];
-        size_t position = NUMBER_AT;
-        uint64_t number = 0;
-        if (winner != 0 && sio_read_u64(frames[pair][winner - 1], PART, &position, &number) == 0 && number > highest) {
-            highest = number;
-        }
+/* A planned write: its slot (0 none, 1 A, 2 B), generation, previous checksum and number, as the library orders them. */
+enum { PLAN_SLOT, PLAN_GENERATION, PLAN_PREV_CRC, PLAN_NUMBER, PLAN };
+
+/* Asks for the plan of a pair's next write. */
+static int plan_next(const struct store *store, size_t pair, uint64_t (*plan)[PLAN]) {
+    uint32_t refusal = sio_plan_write(frames[0][0], store->pairs * sizeof frames[0], pair, plan);
+    if (refusal != 0) {
+        return refused("plan", refusal);
     }
-    return highest;
+    return (*plan)[PLAN_SLOT] == 0 ? fault("the pair may not be written") : DONE;
 }
 
-/* Encodes a correct write of a record to a pair: generation one up, the winner's checksum as the previous one, the number
- * one above all winners. */
-static int encode_next(const struct store *store, size_t pair, uint32_t index, const struct current *current,
-                       const uint8_t *record, size_t len) {
+/* Encodes a planned write of a record to a pair, with the owner of the store and the winner's flags. */
+static int encode_planned(const struct store *store, size_t pair, const struct current *current, const uint64_t *plan,
+                          const uint8_t *record, size_t len) {
     struct place place = place_of(store, pair);
     const uint64_t *winner = winner_values(current);
-    uint64_t number = highest_number(store);
+    uint32_t index = (uint32_t)plan[PLAN_SLOT] - 1;
     uint32_t crc;
     if (winner[READ_ONLY_FLAGS] != 0) {
         return fault("the winner has read-only flags: its pair is not written");
     }
-    if (winner[GENERATION] == UINT64_MAX || number == UINT64_MAX) {
-        return fault("no generation or number is left");
-    }
-    uint32_t refusal = sio_encode(fresh, size_of(place), VOLUME0, VOLUME1, place.object, winner[GENERATION] + 1,
-                                  store->record[OWNER], place.offset[index], index, place.log2, (uint32_t)winner[CRC],
-                                  FORMAT, number + 1, (uint32_t)winner[COMPAT_FLAGS], record, len, &crc);
+    uint32_t refusal = sio_encode(fresh, size_of(place), VOLUME0, VOLUME1, place.object, plan[PLAN_GENERATION],
+                                  store->record[OWNER], place.offset[index], index, place.log2,
+                                  (uint32_t)plan[PLAN_PREV_CRC], FORMAT, plan[PLAN_NUMBER],
+                                  (uint32_t)winner[COMPAT_FLAGS], record, len, &crc);
     if (refusal != 0) {
         return refused("slot", refusal);
     }
-    printf("pair %zu, slot %s: generation %" PRIu64 ", number %" PRIu64 "\n", pair, slot_names[index + 1],
-           winner[GENERATION] + 1, number + 1);
+    printf("pair %zu, slot %s: generation %" PRIu64 ", number %" PRIu64 "\n", pair, slot_names[plan[PLAN_SLOT]],
+           plan[PLAN_GENERATION], plan[PLAN_NUMBER]);
     return DONE;
 }
 
@@ -412,11 +407,10 @@ static int finish(FILE *file, const char *path, int status) {
     return status;
 }
 
-/* Writes a copy of the image with the first k bytes of a correct write of a record to a pair. */
+/* Writes a copy of the image with the first k bytes of a planned write of a record to a pair. */
 static int write_copy(const struct store *store, const char *path, size_t pair, const struct current *current,
-                      const uint8_t *record, size_t len, size_t k) {
-    uint32_t index = current->winner == 1 ? B : A;
-    int status = encode_next(store, pair, index, current, record, len);
+                      const uint64_t *plan, const uint8_t *record, size_t len, size_t k) {
+    int status = encode_planned(store, pair, current, plan, record, len);
     if (status != DONE) {
         return status;
     }
@@ -427,24 +421,37 @@ static int write_copy(const struct store *store, const char *path, size_t pair, 
     }
     status = copy_image(store, copy);
     if (status == DONE) {
-        status = write_at(copy, place_of(store, pair).offset[index], fresh, k);
+        status = write_at(copy, place_of(store, pair).offset[plan[PLAN_SLOT] - 1], fresh, k);
     }
     return finish(copy, path, status);
 }
 
-/* Writes the winner's record anew to the slot named for healing, which is the other one of its pair. The judge names one
- * only in a store that may be written. */
+/* Writes the winner's record anew to the slot named for healing, cut after k bytes or, without k, to the end. What is healed is
+ * the plan's alone. The judge names a slot only in a store that may be written. */
 static int heal_store(struct store *store, char **words) {
-    size_t pair = (size_t)store->judgement[1];
+    uint64_t heal[1 + PLAN];
     struct current current;
-    if (store->judgement[0] == 0) {
+    size_t k = 0;
+    uint32_t refusal = sio_plan_heal(frames[0][0], store->pairs * sizeof frames[0], (uint8_t)store->record[CLEAN], &heal);
+    if (refusal != 0) {
+        return refused("plan", refusal);
+    }
+    if (heal[1 + PLAN_SLOT] == 0) {
         return fault("nothing to heal");
+    }
+    size_t pair = (size_t)heal[0];
+    size_t size = size_of(place_of(store, pair));
+    if (words[1] != NULL && parse(words[1], &k) != DONE) {
+        return usage();
+    }
+    if (k > size) {
+        return fault("more bytes than the slot has");
     }
     int status = read_judged(store, pair, &current);
     if (status != DONE) {
         return status;
     }
-    return write_copy(store, words[0], pair, &current, current.payload, current.len, size_of(place_of(store, pair)));
+    return write_copy(store, words[0], pair, &current, heal + 1, current.payload, current.len, words[1] == NULL ? size : k);
 }
 
 static uint32_t encode_volume(const uint64_t *record, size_t *len) {
@@ -481,8 +488,12 @@ static int may_write(const struct store *store, size_t pair) {
 /* Writes the next record of a pair, cut after k bytes. A volume record is encoded from what the store says. */
 static int write_next(const struct store *store, const char *path, size_t pair, size_t k) {
     struct current current;
+    uint64_t plan[PLAN];
     size_t len = 0;
     int status = read_judged(store, pair, &current);
+    if (status == DONE) {
+        status = plan_next(store, pair, &plan);
+    }
     if (status != DONE) {
         return status;
     }
@@ -490,7 +501,7 @@ static int write_next(const struct store *store, const char *path, size_t pair, 
     if (refusal != 0) {
         return refused("record", refusal);
     }
-    return write_copy(store, path, pair, &current, payload, len, k);
+    return write_copy(store, path, pair, &current, plan, payload, len, k);
 }
 
 /* Writes the volume record with the clean mark. */
@@ -619,12 +630,12 @@ static int make_store(const char *path) {
 
 /* ---- The command line ---- */
 
-/* The commands on a store that is there, with the words that they take behind IMAGE. */
+/* The commands on a store that is there, with the fewest and the most words that they take behind IMAGE. */
 static const struct command {
     const char *name;
-    int words;
+    int least, most;
     int (*run)(struct store *store, char **words);
-} commands[] = {{"judge", 0, print_store}, {"heal", 1, heal_store}, {"close", 1, close_store}, {"cut", 3, cut_store}};
+} commands[] = {{"judge", 0, 0, print_store}, {"heal", 1, 2, heal_store}, {"close", 1, 1, close_store}, {"cut", 3, 3, cut_store}};
 
 static int run(const struct command *command, char **argv) {
     struct store store = {0};
@@ -643,7 +654,7 @@ int main(int argc, char **argv) {
         return make_store(argv[2]);
     }
     for (size_t i = 0; i < sizeof commands / sizeof commands[0]; i++) {
-        if (argc == 3 + commands[i].words && strcmp(argv[1], commands[i].name) == 0) {
+        if (argc >= 3 + commands[i].least && argc <= 3 + commands[i].most && strcmp(argv[1], commands[i].name) == 0) {
             return run(&commands[i], argv);
         }
     }

@@ -40,7 +40,7 @@ static uint8_t value8, kind, name[24], stored[24], id[16], part[PART], report5[5
 static const uint8_t letters[25] = "abcdefghijklmnopqrstuvwx";
 static uint16_t value16;
 static uint32_t value32, crc;
-static uint64_t value64, found2[2], found4[4], found5[5], found7[7], found9[9], other9[9], found11[11], found13[13];
+static uint64_t value64, found2[2], found4[4], plan[4], found5[5], found7[7], found9[9], other9[9], found11[11], found13[13];
 static uint64_t found15[15];
 
 #define SLOT_A V0, V1, 0, 0, 0, log2_slot, 2, 1
@@ -78,6 +78,11 @@ CALL(sio_frame_slot, a, size, SLOT_A, &part)
 CALL(sio_decide, 12, 2, 22, 11, 12, 1, 11, 0, &report5)
 CALL(sio_winner_payload, a, size, b, size, V0, V1, 0, 0, size, log2_slot, 2, 1, &found9, &other9, &report6, &start, &count)
 CALL(sio_judge, frames[0][0], pairs * sizeof frames[0], 0, verdicts[0], pairs * sizeof verdicts[0], &found5)
+CALL(sio_next_number, frames[0][0], pairs * sizeof frames[0], &value64)
+CALL(sio_heal_number, frames[0][0], pairs * sizeof frames[0], &value64)
+CALL(sio_plan_write, frames[0][0], pairs * sizeof frames[0], 0, &plan)
+CALL(sio_plan_heal, frames[0][0], pairs * sizeof frames[0], 0, &found5)
+CALL(sio_next_write, frames[0][0], pairs * sizeof frames[0], 0, V0, V1, 0, 0, size, log2_slot, 1, 0, body, size - 128, out, size, &plan, &crc)
 CALL(sio_region_name, letters, 24, &stored, &value8)
 CALL(sio_region_name_padded, NAME, &stored, &value8)
 CALL(sio_volume_decode, record, sizeof record, &found11)
@@ -130,6 +135,11 @@ static const struct row {
     ROW(sio_decide, 0),
     ROW(sio_winner_payload, 2),
     ROW(sio_judge, 0),
+    ROW(sio_next_number, 0),
+    ROW(sio_heal_number, 0),
+    ROW(sio_plan_write, 0),
+    ROW(sio_plan_heal, 0),
+    ROW(sio_next_write, 0),
     ROW(sio_region_name, 0),
     ROW(sio_region_name_padded, 0),
     ROW(sio_volume_decode, 0),

@@ -34,12 +34,13 @@
  *           sio_decode_page sio_reserved_span
  *     128   sio_crc32c_gap sio_write_bytes sio_write_zeros sio_decide sio_volume_encode sio_encode_page sio_read_entry
  *           sio_write_entry
- *     192   sio_region_name
- *     256   sio_encode sio_judge
- *     320   sio_region_name_padded
+ *     192   sio_next_number sio_heal_number sio_region_name
+ *     256   sio_judge sio_plan_write
+ *     320   sio_encode sio_region_name_padded
+ *     384   sio_plan_heal
  *     448   sio_header_facts sio_entry_name sio_entry_name_and_kind
  *     512   sio_frame_slot
- *     576   sio_validate
+ *     576   sio_validate sio_next_write
  *     640   sio_entry_to_raw
  *     704   sio_check_entry
  *     896   sio_winner_payload
@@ -59,7 +60,7 @@
  *    5  a format that is not 1 or 2, or a number in format 1
  *    6  a read past the end of the buffer
  *    7  a write past the end of the buffer
- *    8  no pair
+ *    8  no pair, or none with that number
  *    9  verdicts of another length than four bytes a pair
  *   10  frames that are not a multiple of 52 bytes, a status code above 12, facts above 2, or a clean mark above 1
  *   11  a record, page or entry of another length than its layout's, or a buffer too short for it
@@ -83,6 +84,7 @@
  *   39  a header outside the span or before the table's end, or both headers in one place
  *   40  a footprint number of 0 or above the page's
  *   41  a slot region with extents or sizes, 42  another region without an extent
+ *   48  no generation or no number is left below 2^64
  */
 #ifndef STORE_IO_H
 #define STORE_IO_H
@@ -226,6 +228,61 @@ uint32_t sio_winner_payload(const uint8_t *a, size_t a_len, const uint8_t *b, si
  */
 uint32_t sio_judge(const uint8_t *frames, size_t frames_len, uint8_t clean, uint8_t *verdicts, size_t verdicts_len,
                    uint64_t (*judgement)[5]);
+
+/* ---- The next write ----
+ *
+ * What a correct write is: which slot it goes to, and its generation, previous checksum and number. A host that asks here
+ * computes none of them, and reads no number out of a frame. frames are as for sio_judge. All five refuse as the judge does
+ * first, but 9: 8 (no bytes), 10 (not whole frames), 10 (a value out of range, the mark of sio_plan_heal too), and then as said
+ * at each. A refusal leaves every number, plan, checksum and byte as it was.
+ *
+ * What a pair is, sio_decide says of the two parts of its frame, and not the judge, whose Lost takes in Empty and Fork.
+ *
+ * They say what to write, not whether. The host:
+ *   1. reads every slot, fills the frames and judges the store;
+ *   2. writes nothing where it is not writable;
+ *   3. where a slot is named for healing, writes what sio_plan_heal says and nothing else, and judges again;
+ *   4. where the clean mark is set, writes pair 0 first, with the mark cleared;
+ *   5. else writes the next record of any pair by sio_next_write, or by sio_plan_write and sio_encode. A pair whose winner
+ *      has a read-only flag is not written, and a rewrite carries the winner's compatible flags.
+ * Each write is durable before the next one begins, and is planned from frames that were filled after the one before.
+ *
+ * Promised: of a sound store whose clean mark is 0, a write of what sio_next_write encodes, to the slot that it names, of a
+ * payload that the pair's decoder accepts, cut anywhere without an accident (docs/FORMAT.md, "The sound store and the cut"),
+ * leaves a store that is judged writable, and of every pair the last record that was written whole. A write that is finished
+ * leaves a sound store. Not covered: the first write after a clean close, a healing write, and the writes after a cut.
+ */
+
+/* The number of the next write: one above the highest of all numbered slots, 1 where there is none; 48 where that is 2^64. The
+ * numbered slots are those under 12, and those under 11 with facts 2. */
+uint32_t sio_next_number(const uint8_t *frames, size_t frames_len, uint64_t *number);
+
+/* One above the numbers of all winners, 1 where there is none; 48 where that is 2^64. It is the number of the theorem on healing
+ * writes, and is right in the states that a store reaches by correct writes, cuts and heals. In a damaged store it is not
+ * enough: a host heals by sio_plan_heal alone. */
+uint32_t sio_heal_number(const uint8_t *frames, size_t frames_len, uint64_t *number);
+
+/* The next write of the pair with that number, from 0: plan is the slot (1 A, 2 B), the generation, the previous header's
+ * checksum and the number. The slot is that of sio_decide's byte 4, the generation one above the winner's, the checksum the
+ * winner's own, the number that of sio_next_number; of an Empty pair slot 1, generation 1 and checksum 0. Of a Fork, a Lost and
+ * a Refused pair four zeros. Then refused: 8 for a pair beyond the row; 48 where a slot is planned and its generation or number
+ * would be 2^64. */
+uint32_t sio_plan_write(const uint8_t *frames, size_t frames_len, size_t pair, uint64_t (*plan)[4]);
+
+/* The write that heals, under the clean mark, 0 or 1: plan is the pair, the slot that the judge names (1 A, 2 B), the generation
+ * one above that of the pair's winner, the winner's own checksum, and one above the highest number of all numbered slots but
+ * the named one. Five zeros where the judge names none. The payload to write is the winner's. Then refused: 48 where a slot is
+ * named and its generation or number would be 2^64. */
+uint32_t sio_plan_heal(const uint8_t *frames, size_t frames_len, uint8_t clean, uint64_t (*plan)[5]);
+
+/* The plan of sio_plan_write, encoded in format 2 into slot, a buffer of 2^log2_slot_size bytes, with the header's checksum in
+ * *header_crc32c. The pair's slots are read as numbered in format 2 with this volume id, object and size, A at a_offset and B at
+ * b_offset. Refused in the order of sio_plan_write, then, where a slot is planned, with 1, 2 or 3 as by sio_encode. Where none is
+ * planned plan is four zeros, and slot and *header_crc32c are as they were. */
+uint32_t sio_next_write(const uint8_t *frames, size_t frames_len, size_t pair, uint64_t volume0, uint64_t volume1,
+                        uint64_t object_id, uint64_t a_offset, uint64_t b_offset, uint8_t log2_slot_size,
+                        uint64_t owner_generation, uint32_t compat_flags, const uint8_t *payload, size_t payload_len,
+                        uint8_t *slot, size_t slot_len, uint64_t (*plan)[4], uint32_t *header_crc32c);
 
 /* ---- Region names ----
  *

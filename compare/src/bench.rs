@@ -3,6 +3,7 @@
 use crate::bench_judge;
 use crate::bench_meta;
 use crate::bench_pairs;
+use crate::bench_plan;
 use crate::bench_slots;
 use crate::bytestep;
 use crate::crc32c::crc32c;
@@ -74,6 +75,7 @@ pub fn run() -> ExitCode {
         && bench_pairs::WINNER_PAYLOAD.measure()
         && bench_judge::JUDGE.measure()
         && bench_judge::JUDGE_DAMAGED.measure()
+        && bench_plan::PLAN_WRITE.measure()
         && bench_meta::VOLUME_DECODE.measure()
         && bench_meta::DECODE_PAGE.measure()
         && bench_meta::ENCODE_PAGE.measure()

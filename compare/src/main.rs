@@ -44,6 +44,7 @@ mod bench;
 mod bench_judge;
 mod bench_meta;
 mod bench_pairs;
+mod bench_plan;
 mod bench_slots;
 mod bytestep;
 mod checksum;
@@ -61,6 +62,7 @@ mod entry_sample;
 mod faults;
 mod ffi;
 mod ffi_pair;
+mod ffi_plan;
 mod ffi_table;
 mod ffi_volume;
 mod frames;
@@ -83,6 +85,8 @@ mod pages_sweep;
 mod pairs;
 mod part;
 mod places;
+mod plan_reference;
+mod planning;
 mod program;
 mod reference;
 mod rng;
@@ -116,6 +120,7 @@ const PARTS: &[Part] = &[
     pairs::PART,
     winners::PART,
     judging::PART,
+    planning::PART,
     names::PART,
     volumes::PART,
     pages::PART,

@@ -11,6 +11,7 @@ pub mod judging;
 pub mod names;
 pub mod pages;
 pub mod pairs;
+pub mod planning;
 pub mod slots;
 pub mod tables;
 pub mod volumes;

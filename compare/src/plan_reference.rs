@@ -1,0 +1,141 @@
+//! What a correct write is, from docs/FORMAT.md ("Frames", "Pairs", "Numbered slots", "What a correct write is"). Which slot is healed and
+//! which slots won, the Rust's judge says.
+
+use crate::ffi::Version;
+use crate::ffi_pair::PairIdentity;
+use crate::ffi_plan::Written;
+use crate::frames::{Slot, BAD_PAYLOAD, BLANK, FRAME, HALF, INCOMPATIBLE, UNSUPPORTED, VALID};
+use crate::judge_reference::{self, BAD_FRAMES, NO_PAIR, VERDICT};
+use crate::slot_reference;
+
+/// No generation or no number is left.
+pub const USED_UP: u32 = 48;
+
+/// A planned write. The slot is 0 for A and 1 for B.
+#[derive(Clone, Copy)]
+pub struct Plan {
+    pub slot: usize,
+    pub generation: u64,
+    pub previous: u32,
+    pub number: u64,
+}
+
+impl Plan {
+    /// As C has it: the slot is 1 for A and 2 for B.
+    pub fn numbers(&self) -> [u64; 4] {
+        [self.slot as u64 + 1, self.generation, self.previous.into(), self.number]
+    }
+}
+
+/// The slots of all pairs, or the number of a refusal.
+fn read(frames: &[u8], clean: u8) -> Result<Vec<[Slot; 2]>, u32> {
+    if frames.is_empty() {
+        return Err(NO_PAIR);
+    }
+    if frames.len() % FRAME != 0 {
+        return Err(BAD_FRAMES);
+    }
+    let row: Vec<[Slot; 2]> = frames.chunks(FRAME).map(|frame| [slot(&frame[..HALF]), slot(&frame[HALF..])]).collect();
+    if clean > 1 || row.iter().flatten().any(|slot| slot.code > VALID || slot.facts > 2) {
+        return Err(BAD_FRAMES);
+    }
+    Ok(row)
+}
+
+fn slot(part: &[u8]) -> Slot {
+    let number = |from: usize, to: usize| part[from..to].iter().rev().fold(0, |sum, byte| sum << 8 | u64::from(*byte));
+    Slot {
+        code: part[0],
+        facts: part[1],
+        generation: number(2, 10),
+        number: number(10, 18),
+        own: number(18, 22) as u32,
+        previous: number(22, 26) as u32,
+    }
+}
+
+/// Valid slots are numbered, and those whose payload alone fails.
+fn is_numbered(slot: &Slot) -> bool {
+    slot.code == VALID || slot.code == BAD_PAYLOAD && slot.facts == 2
+}
+
+fn above(numbers: impl Iterator<Item = u64>) -> Result<u64, u32> {
+    numbers.max().unwrap_or(0).checked_add(1).ok_or(USED_UP)
+}
+
+pub fn next_number(frames: &[u8]) -> Result<u64, u32> {
+    let row = read(frames, 0)?;
+    above(row.iter().flatten().filter(|slot| is_numbered(slot)).map(|slot| slot.number))
+}
+
+pub fn heal_number(frames: &[u8]) -> Result<u64, u32> {
+    let row = read(frames, 0)?;
+    let judged = judge_reference::judge(frames, 0, row.len() * VERDICT)?;
+    let winners = judged.verdicts.chunks(VERDICT).zip(&row).filter(|(verdict, _)| verdict[1] != 0);
+    above(winners.map(|(verdict, pair)| pair[usize::from(verdict[1]) - 1].number))
+}
+
+/// The slot that is written next, and the slot that the write follows; an Empty pair's first write follows none.
+fn next([a, b]: &[Slot; 2]) -> Option<(usize, Option<Slot>)> {
+    let refused = |slot: &Slot| slot.code == UNSUPPORTED || slot.code == INCOMPATIBLE;
+    if refused(a) || refused(b) {
+        return None;
+    }
+    match (a.code, b.code) {
+        (VALID, VALID) if a.generation == b.generation => None,
+        (VALID, VALID) if a.generation < b.generation => Some((0, Some(*b))),
+        (VALID, _) => Some((1, Some(*a))),
+        (_, VALID) => Some((0, Some(*b))),
+        (BLANK, BLANK) => Some((0, None)),
+        _ => None,
+    }
+}
+
+fn plan((slot, follows): (usize, Option<Slot>), number: Result<u64, u32>) -> Result<Plan, u32> {
+    let (before, previous) = follows.map_or((0, 0), |winner| (winner.generation, winner.own));
+    Ok(Plan { slot, generation: before.checked_add(1).ok_or(USED_UP)?, previous, number: number? })
+}
+
+pub fn plan_write(frames: &[u8], pair: usize) -> Result<Option<Plan>, u32> {
+    let row = read(frames, 0)?;
+    let pair = row.get(pair).ok_or(NO_PAIR)?;
+    next(pair).map(|next| plan(next, next_number(frames))).transpose()
+}
+
+/// The pair, and the plan of its heal.
+pub fn plan_heal(frames: &[u8], clean: u8) -> Result<Option<(usize, Plan)>, u32> {
+    let row = read(frames, clean)?;
+    let [slot, pair, ..] = judge_reference::judge(frames, clean, row.len() * VERDICT)?.judgement;
+    if slot == 0 {
+        return Ok(None);
+    }
+    let (slot, pair) = (slot as usize - 1, pair as usize);
+    let others = row
+        .iter()
+        .enumerate()
+        .flat_map(|(i, slots)| slots.iter().enumerate().map(move |(j, found)| (i, j, found)))
+        .filter(|(i, j, found)| (*i, *j) != (pair, slot) && is_numbered(found));
+    let number = above(others.map(|(_, _, found)| found.number));
+    plan((slot, Some(row[pair][1 - slot])), number).map(|plan| Some((pair, plan)))
+}
+
+/// The plan, and the checksum of the header; the bytes are in the buffer.
+pub fn next_write(
+    (frames, pair): (&[u8], usize),
+    at: &PairIdentity,
+    written: Written,
+    payload: &[u8],
+    slot: &mut [u8],
+) -> Result<Option<(Plan, u32)>, u32> {
+    let Some(plan) = plan_write(frames, pair)? else { return Ok(None) };
+    let version = Version {
+        generation: plan.generation,
+        owner_generation: written.owner_generation,
+        prev_header_crc32c: plan.previous,
+        meta_seq: plan.number,
+        compat_flags: written.compat_flags,
+    };
+    let at = PairIdentity { format_major: 2, numbered: 1, ..*at };
+    let encoded = slot_reference::encode(slot, &at.slot(plan.slot as u32), &version, payload);
+    encoded.header_crc32c.map(|crc| Some((plan, crc))).ok_or(encoded.refusal)
+}

@@ -1,0 +1,86 @@
+-- The planned heal is of the slot that the judge names.
+use Rattle.std.proofs.Common.{◌≡◌, refl, sym, ap, ap₂, ◌∙◌, List, ℕ, ◌*◌, ◌==◌, slice_get, Option, Some, None, Result, Ok, Err}
+use Rattle.std.proofs.lemmas.Option.{some_pair_parts, same_Some}
+use Rattle.slot.specs.declared.slot.SlotIndex.{SlotIndex}
+use Rattle.judge.specs.Numbers.{slots, highest_other}
+use Rattle.judge.specs.Judge.{judgement, unless}
+use Rattle.judge.specs.Frames.{verdict_width, pair_count, frames, row, frames_error, judge_frames}
+use Rattle.judge.specs.declared.verdict.JudgeError.{JudgeError}
+use Rattle.judge.specs.declared.verdict.Judgement.{Judgement}
+use Rattle.plan.specs.declared.error.PlanError.{PlanError}
+use Rattle.plan.specs.declared.write.Plan.{Plan}
+use Rattle.plan.specs.Error.{unless_refused}
+use Rattle.plan.specs.Numbers.{refusal}
+use Rattle.plan.specs.Pairs.{frame_report}
+use Rattle.plan.specs.Plan.{followed, plan_at, some_plan}
+use Rattle.plan.specs.Heal.{place, with_pair, heal_in, heal_for, plan_heal, HealsTheNamed}
+use Rattle.plan.proofs.PlanLaws.{plan_has}
+
+-- What the judge answers where it answers.
+judged : (s : List ℕ) (clean : ℕ) (j : Judgement) → judge_frames s clean (pair_count s * verdict_width) ≡ Ok j → judgement (row s) (clean == 1) ≡ j
+unfolding judge_frames
+judged s clean j is = go (frames_error s clean (pair_count s * verdict_width)) is
+  where
+    go : (e : Option JudgeError) → unless e (judgement (row s) (clean == 1)) ≡ Ok j → judgement (row s) (clean == 1) ≡ j
+    go None is = cc
+    go (Some e) is = absurd cc
+
+-- A plan is answered for the pair and the slot that it was asked for.
+asked : (f : Option (List ℕ)) (pair k : ℕ) (index : SlotIndex) (most : ℕ) (plan : Plan)
+    → heal_in f k index most ≡ Ok (Some (pair, plan)) → ◌≡◌ {A = ℕ × SlotIndex} (k, index) (pair, plan.index)
+asked None pair k index most plan is = absurd cc
+asked (Some f) pair k index most plan is = go (plan_at index (followed (frame_report f)) most) refl is
+  where
+    go : (r : Result Plan PlanError) → plan_at index (followed (frame_report f)) most ≡ r → with_pair k r ≡ Ok (Some (pair, plan))
+        → ◌≡◌ {A = ℕ × SlotIndex} (k, index) (pair, plan.index)
+    go (Err e) r_is is = absurd cc
+    go (Ok p) r_is is =
+        let inner : Some (k, p) ≡ Some (pair, plan) = cc in
+        let same = some_pair_parts k pair p plan inner in
+        let has = plan_has (Some index) (followed (frame_report f)) most p (ap some_plan r_is) in
+        let next : Some index ≡ Some p.index = has.next_is in
+        ap₂ (λ (n : ℕ) (x : SlotIndex). (n, x)) same.0 (same_Some index p.index next ∙ ap (λ (x : Plan). x.index) same.1)
+
+not_none : (f : Option (List ℕ)) (k : ℕ) (index : SlotIndex) (most : ℕ) → heal_in f k index most ≡ Ok None → ⊥
+not_none None k index most is = cc
+not_none (Some f) k index most is = go (plan_at index (followed (frame_report f)) most) is
+  where
+    go : (r : Result Plan PlanError) → with_pair k r ≡ Ok None → ⊥
+    go (Err e) is = cc
+    go (Ok p) is = cc
+
+module _ (s : List ℕ) (clean : ℕ) where
+  abbrev named : Option (ℕ × SlotIndex)
+  named = (judgement (row s) (clean == 1)).heal
+
+  planned_named : (pair : ℕ) (plan : Plan) → plan_heal s clean ≡ Ok (Some (pair, plan)) → named ≡ Some (pair, plan.index)
+  unfolding plan_heal
+  planned_named pair plan is = refused (refusal s clean) is
+    where
+      go : (n : Option (ℕ × SlotIndex)) → heal_for s n ≡ Ok (Some (pair, plan)) → n ≡ Some (pair, plan.index)
+      go None is = absurd cc
+      go (Some n) is = ap Some (asked (slice_get (frames s) n.0) pair n.0 n.1 (highest_other (place n.0 n.1) (slots (row s))) plan is)
+
+      refused : (e : Option JudgeError) → unless_refused e (heal_for s named) ≡ Ok (Some (pair, plan)) → named ≡ Some (pair, plan.index)
+      refused None is = go named is
+      refused (Some e) is = absurd cc
+
+  none_planned : plan_heal s clean ≡ Ok None → named ≡ None
+  unfolding plan_heal
+  none_planned is = refused (refusal s clean) is
+    where
+      go : (n : Option (ℕ × SlotIndex)) → heal_for s n ≡ Ok None → n ≡ None
+      go None is = refl
+      go (Some n) is = absurd (not_none (slice_get (frames s) n.0) n.0 n.1 (highest_other (place n.0 n.1) (slots (row s))) is)
+
+      refused : (e : Option JudgeError) → unless_refused e (heal_for s named) ≡ Ok None → named ≡ None
+      refused None is = go named is
+      refused (Some e) is = absurd cc
+
+pub heals_the_named : HealsTheNamed
+heals_the_named =
+    record {
+      planned = λ s clean pair plan j is answer.
+          ap (λ (x : Judgement). x.heal) (sym (judged s clean j answer)) ∙ planned_named s clean pair plan is;
+      none = λ s clean j is answer. ap (λ (x : Judgement). x.heal) (sym (judged s clean j answer)) ∙ none_planned s clean is;
+    }

@@ -1,0 +1,108 @@
+-- What a plan has: the slot that `next_write` names, and one above the record before and above the highest number.
+use Rattle.std.proofs.Common.{◌≡◌, refl, sym, ap, subst, ◌∙◌, Bool, true, false, cond, List, ℕ, ◌+◌, ◌-◌, ◌^◌, ◌<◌, arith, ltb, ltb-true, slice_get, Option, Some, None, Result, Ok, Err}
+use Rattle.std.proofs.lemmas.Option.{some_pair_parts}
+use Rattle.slot.specs.Status.{other, info}
+use Rattle.slot.specs.declared.slot.SlotIndex.{SlotIndex}
+use Rattle.slot.specs.declared.slot.SlotInfo.{SlotInfo}
+use Rattle.pair.specs.Pair.{status, named, info_by, winner_info, next_by, next_write}
+use Rattle.pair.specs.declared.pair.PairReport.{PairReport}
+use Rattle.pair.specs.declared.pair.Winner.{Winner}
+use Rattle.judge.specs.Numbers.{slots, highest}
+use Rattle.judge.specs.Frames.{frames, row}
+use Rattle.judge.specs.declared.verdict.JudgeError.{JudgeError}
+use Rattle.plan.specs.declared.error.PlanError.{PlanError}
+use Rattle.plan.specs.declared.write.Plan.{Plan}
+use Rattle.plan.specs.Error.{unless_refused}
+use Rattle.plan.specs.Numbers.{refusal}
+use Rattle.plan.specs.Pairs.{frame_report}
+use Rattle.plan.specs.Plan.{followed, some_plan, plan_next, plan_for, plan_write, NotTheWinner}
+
+-- Over frames that are not refused the pair's plan is the plan of its frame, of which r is the report.
+pub plan_is : (s : List ℕ) (i : ℕ) (f : List ℕ) (most : ℕ) (fs : List (List ℕ)) (r : PairReport) (answer : Result (Option Plan) PlanError)
+    → Ok most ≡ unless_refused (refusal s 0) (Ok (highest (slots (row s)))) → fs ≡ frames s → slice_get fs i ≡ Some f
+    → r ≡ frame_report f → answer ≡ plan_next (next_write r) (followed r) most → answer ≡ plan_write s i
+unfolding plan_write
+plan_is s i f most fs r answer known fs_are here r_is answer_is =
+    answer_is ∙ ap (λ (x : PairReport). plan_next (next_write x) (followed x) most) r_is ∙ go (refusal s 0) known
+  where
+    at : slice_get (frames s) i ≡ Some f
+    at = ap (λ (l : List (List ℕ)). slice_get l i) (sym fs_are) ∙ here
+
+    go : (e : Option JudgeError) → Ok most ≡ unless_refused e (Ok (highest (slots (row s))))
+        → plan_next (next_write (frame_report f)) (followed (frame_report f)) most
+        ≡ unless_refused e (plan_for (slice_get (frames s) i) (highest (slots (row s))))
+    go None is = let same : most ≡ highest (slots (row s)) = cc in rw (at, same)
+    go (Some e) is = absurd cc
+
+pub planned_frame : (s f : List ℕ) (i : ℕ) (plan : Plan) → plan_write s i ≡ Ok (Some plan) → slice_get (frames s) i ≡ Some f
+    → plan_next (next_write (frame_report f)) (followed (frame_report f)) (highest (slots (row s))) ≡ Ok (Some plan)
+unfolding plan_write
+planned_frame s f i plan is at = go (refusal s 0) is
+  where
+    go : (e : Option JudgeError) → unless_refused e (plan_for (slice_get (frames s) i) (highest (slots (row s)))) ≡ Ok (Some plan)
+        → plan_next (next_write (frame_report f)) (followed (frame_report f)) (highest (slots (row s))) ≡ Ok (Some plan)
+    go None is = rw at at is
+    go (Some e) is = absurd cc
+
+-- ---- what a plan has
+
+pub record Has (next : Option SlotIndex) (record_before : ℕ × ℕ) (most : ℕ) (plan : Plan) : Type 0 where
+  pub next_is : next ≡ Some plan.index
+  pub generation : plan.generation ≡ record_before.0 + 1
+  pub generation_fits : plan.generation < 2 ^ 64
+  pub prev : plan.prev_header_crc32c ≡ record_before.1
+  pub number : plan.meta_seq ≡ most + 1
+  pub number_fits : plan.meta_seq < 2 ^ 64
+
+abbrev plan_of : SlotIndex → ℕ × ℕ → ℕ → Plan
+plan_of index record_before most =
+    record { index = index; generation = record_before.0 + 1; prev_header_crc32c = record_before.1; meta_seq = most + 1 }
+
+pub plan_has : (next : Option SlotIndex) (record_before : ℕ × ℕ) (most : ℕ) (plan : Plan)
+    → plan_next next record_before most ≡ Ok (Some plan) → Has next record_before most plan
+plan_has None record_before most plan is = absurd cc
+plan_has (Some index) record_before most plan is =
+    go (ltb record_before.0 (2 ^ 64 - 1)) (ltb most (2 ^ 64 - 1)) refl refl is
+  where
+    go : (g n : Bool) → ltb record_before.0 (2 ^ 64 - 1) ≡ g → ltb most (2 ^ 64 - 1) ≡ n
+        → some_plan (cond g (cond n (Ok (plan_of index record_before most)) (Err PlanError.UsedUp)) (Err PlanError.UsedUp)) ≡ Ok (Some plan)
+        → Has (Some index) record_before most plan
+    go false n g_is n_is planned = absurd cc
+    go true false g_is n_is planned = absurd cc
+    go true true g_is n_is planned =
+        let same : plan_of index record_before most ≡ plan = cc in
+        let generation = ltb-true record_before.0 (2 ^ 64 - 1) g_is in
+        let number = ltb-true most (2 ^ 64 - 1) n_is in
+        subst (λ (x : Plan). Has (Some index) record_before most x) same
+        (record {
+          next_is = refl;
+          generation = refl;
+          generation_fits = omega arith;
+          prev = refl;
+          number = refl;
+          number_fits = omega arith;
+        })
+
+-- ---- the planned slot is never the winner
+
+pub next_of_winner : (r : PairReport) (index : SlotIndex) (i : SlotInfo) → winner_info r ≡ Some (index, i) → next_write r ≡ Some (other index)
+next_of_winner r index i is = go r.winner is
+  where
+    at : (w : SlotIndex) (known : Option SlotInfo) → named w known ≡ Some (index, i) → Some (other w) ≡ Some (other index)
+    at w None is = absurd cc
+    at w (Some j) is = ap (λ (x : SlotIndex). Some (other x)) (some_pair_parts w index j i is).0
+
+    go : (w : Winner) → info_by r w ≡ Some (index, i) → next_by w ≡ Some (other index)
+    go Winner.Empty is = absurd cc
+    go (Winner.Confirmed w) is = at w (info (status r w)) is
+    go (Winner.Unconfirmed w) is = at w (info (status r w)) is
+    go Winner.Fork is = absurd cc
+    go Winner.Refused is = absurd cc
+    go Winner.Lost is = absurd cc
+
+pub not_the_winner : NotTheWinner
+not_the_winner s f i plan won is at won_is =
+    let has = plan_has _ _ _ plan (planned_frame s f i plan is at) in
+    let next = next_of_winner (frame_report f) won.0 won.1 won_is in
+    let same : Some plan.index ≡ Some (other won.0) = sym has.next_is ∙ next in
+    cc

@@ -1,0 +1,57 @@
+-- The plan of the write that heals (docs/FORMAT.md, "What a correct write is").
+use Rattle.std.specs.Prelude.{◌≡◌, List, [], ◌∷◌, ℕ, ◌+◌, ◌*◌, ◌==◌, if◌then◌else◌, Option, Some, None, Result, Ok, Err, slice_get}
+use Rattle.slot.specs.declared.slot.SlotIndex.{SlotIndex}
+use Rattle.judge.specs.Numbers.{slots, highest_other}
+use Rattle.judge.specs.Verdict.{by_index}
+use Rattle.judge.specs.Judge.{judgement}
+use Rattle.judge.specs.Frames.{verdict_width, pair_count, frames, row, judge_frames}
+use Rattle.judge.specs.declared.pairs.Shown.{Shown}
+use Rattle.judge.specs.declared.pairs.Pair.{Pair}
+use Rattle.judge.specs.declared.verdict.Judgement.{Judgement}
+use Rattle.plan.specs.declared.error.PlanError.{PlanError}
+use Rattle.plan.specs.declared.write.Plan.{Plan}
+use Rattle.plan.specs.Error.{unless_refused}
+use Rattle.plan.specs.Numbers.{refusal}
+use Rattle.plan.specs.Pairs.{frame_report}
+use Rattle.plan.specs.Plan.{followed, plan_at}
+
+-- The place of a pair's slot among all slots of the store.
+abbrev pub place : ℕ → SlotIndex → ℕ
+place i index = by_index index (2 * i) (2 * i + 1)
+
+abbrev pub with_pair : ℕ → Result Plan PlanError → Result (Option (ℕ × Plan)) PlanError
+with_pair pair (Ok plan) = Ok (Some (pair, plan))
+with_pair pair (Err error) = Err error
+
+-- A write to the named slot, with the number after the highest of all numbered slots but that one.
+abbrev pub heal_in : Option (List ℕ) → ℕ → SlotIndex → ℕ → Result (Option (ℕ × Plan)) PlanError
+heal_in None pair index most = Err PlanError.NoPair
+heal_in (Some f) pair index most = with_pair pair (plan_at index (followed (frame_report f)) most)
+
+abbrev pub heal_for : List ℕ → Option (ℕ × SlotIndex) → Result (Option (ℕ × Plan)) PlanError
+heal_for s None = Ok None
+heal_for s (Some named) = heal_in (slice_get (frames s) named.0) named.0 named.1 (highest_other (place named.0 named.1) (slots (row s)))
+
+-- Of the slot that the judge names.
+unfoldable pub plan_heal : List ℕ → ℕ → Result (Option (ℕ × Plan)) PlanError
+plan_heal s clean = unless_refused (refusal s clean) (heal_for s (judgement (row s) (clean == 1)).heal)
+
+-- What is planned is the slot that the judge names, and where nothing is planned it names none.
+pub record HealsTheNamed : Type 0 where
+  pub planned : (s : List ℕ) (clean pair : ℕ) (plan : Plan) (j : Judgement)
+      → plan_heal s clean ≡ Ok (Some (pair, plan)) → judge_frames s clean (pair_count s * verdict_width) ≡ Ok j
+      → j.heal ≡ Some (pair, plan.index)
+  pub none : (s : List ℕ) (clean : ℕ) (j : Judgement)
+      → plan_heal s clean ≡ Ok None → judge_frames s clean (pair_count s * verdict_width) ≡ Ok j
+      → j.heal ≡ None
+
+-- ---- as the code counts: a slot of which nothing is seen counts for no number
+
+abbrev pub pair_without : SlotIndex → Pair → Pair
+pair_without SlotIndex.A p = record { a = Shown.Other; b = p.b }
+pair_without SlotIndex.B p = record { a = p.a; b = Shown.Other }
+
+-- The kth of the pairs from the ith on.
+abbrev pub without : ℕ → ℕ → SlotIndex → List Pair → List Pair
+without i k index [] = []
+without i k index (p ∷ ps) = (if i == k then pair_without index p else p) ∷ without (i + 1) k index ps

@@ -1,0 +1,54 @@
+-- The numbers of the writes to come (docs/FORMAT.md, "What a correct write is").
+use Rattle.std.specs.Prelude.{◌≡◌, Bool, List, [], ◌∷◌, ℕ, ◌+◌, ◌*◌, ◌-◌, ◌^◌, nat_lt, max, map, if◌then◌else◌, Option, Some, None, Result, Ok, Err}
+use Rattle.slot.specs.declared.slot.SlotIndex.{SlotIndex}
+use Rattle.judge.specs.Pairs.{numbered, pair_case}
+use Rattle.judge.specs.Numbers.{slots, number, highest}
+use Rattle.judge.specs.Verdict.{by_index}
+use Rattle.judge.specs.Judge.{verdicts}
+use Rattle.judge.specs.Frames.{verdict_width, pair_count, row, frames_error}
+use Rattle.judge.specs.declared.pairs.Pair.{Pair}
+use Rattle.judge.specs.declared.pairs.PairCase.{PairCase}
+use Rattle.judge.specs.declared.verdict.JudgeError.{JudgeError}
+use Rattle.plan.specs.declared.error.PlanError.{PlanError}
+use Rattle.plan.specs.Error.{unless_refused}
+
+-- The judge's error, where there is room for its verdicts. Functions that are handed no mark ask with 0.
+abbrev pub refusal : List ℕ → ℕ → Option JudgeError
+refusal s clean = frames_error s clean (pair_count s * verdict_width)
+
+-- One above a number; none is above 2^64 - 1.
+abbrev pub after : ℕ → Result ℕ PlanError
+after n = if nat_lt n (2 ^ 64 - 1) then Ok (n + 1) else Err PlanError.UsedUp
+
+-- ---- the numbers of the winners
+
+abbrev pub case_winner : PairCase → Option SlotIndex
+case_winner (PairCase.Won index o) = Some index
+case_winner PairCase.Refused = None
+case_winner PairCase.Lost = None
+
+-- The number of the slot at an index, 0 without one.
+abbrev pub number_by : Option SlotIndex → Pair → ℕ
+number_by (Some index) p = number (numbered (by_index index p.a p.b))
+number_by None p = 0
+
+abbrev pub winner_number : Pair → ℕ
+winner_number p = number_by (case_winner (pair_case p)) p
+
+abbrev pub highest_winner : List Pair → ℕ
+highest_winner [] = 0
+highest_winner (p ∷ ps) = max (winner_number p) (highest_winner ps)
+
+-- These are the winners of the verdicts, whatever the mark.
+abbrev pub WinnersOfVerdicts : Type 0
+WinnersOfVerdicts = (ps : List Pair) (clean : Bool) → map (λ v. v.winner) (verdicts ps clean) ≡ map (λ p. case_winner (pair_case p)) ps
+
+-- ---- the numbers
+
+-- Of the next write: one above the highest of all numbered slots, 1 where there is none.
+unfoldable pub next_number : List ℕ → Result ℕ PlanError
+next_number s = unless_refused (refusal s 0) (after (highest (slots (row s))))
+
+-- Of a write that heals a store as the theorem has it: one above the numbers of all winners, 1 where there is none.
+unfoldable pub heal_number : List ℕ → Result ℕ PlanError
+heal_number s = unless_refused (refusal s 0) (after (highest_winner (row s)))

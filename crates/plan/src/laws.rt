@@ -1,0 +1,34 @@
+// The laws of the planned writes, each the contract of a function that does nothing.
+ghost use Rattle.plan.specs.Numbers.{WinnersOfVerdicts};
+ghost use Rattle.plan.specs.Plan.{NotTheWinner};
+ghost use Rattle.plan.specs.Heal.{HealsTheNamed};
+ghost use Rattle.plan.specs.Promise.{PlannedIsCorrect, FinishedIsSound};
+
+// Does nothing: its contract is that the winners whose numbers `heal_number` goes by are those of the judge's verdicts.
+#[tactic(auto, using(crate::proofs::WinnerLaws::winners_of_verdicts))]
+pub fn winners_law()
+    ensures { WinnersOfVerdicts }
+{}
+
+// Does nothing: its contract is that the planned slot is never the winner.
+pub fn slot_law()
+    ensures { NotTheWinner }
+{}
+
+// Does nothing: its contract is that the planned heal is of the slot that the judge names.
+#[tactic(auto, using(crate::proofs::HealLaws::heals_the_named))]
+pub fn heal_law()
+    ensures { HealsTheNamed }
+{}
+
+// Does nothing: its contract is that a planned write is the cut theorem's correct write.
+#[tactic(auto, using(crate::proofs::CorrectLaws::planned_is_correct))]
+pub fn correct_law()
+    ensures { PlannedIsCorrect }
+{}
+
+// Does nothing: its contract is that a correct write which is finished leaves a sound store whose last record is the payload.
+#[tactic(auto, using(crate::proofs::FinishLaws::finished_is_sound))]
+pub fn finished_law()
+    ensures { FinishedIsSound }
+{}
