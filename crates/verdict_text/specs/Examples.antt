@@ -1,4 +1,5 @@
--- What is printed for the store of docs/FORMAT.md, "The program verdicts", for a mark alone, for a wrong mark and for a longer text.
+-- What is printed for the store of docs/FORMAT.md, "The program verdicts", whose second pair has a torn payload, for one with a torn header,
+-- for a mark alone, for a wrong mark and for a longer text.
 use Rattle.std.specs.Prelude.{◌≡◌, ◌++◌, codes}
 use Rattle.verdict_text.specs.declared.answer.Refusal.{Refusal}
 use Rattle.verdict_text.specs.Write.{refusal_line}
@@ -8,6 +9,10 @@ pub record TextExamples : Type 0 where
   pub store : answer_text
       (codes "00\n" ++ codes "0c020100000000000000010000000000000011111111000000000200000000000000000000000000000000000000000000000000\n"
       ++ codes "0c020200000000000000020000000000000022222222333333330b02030000000000000003000000000000004444444422222222\n")
+      ≡ codes "00010001\n00010003\n0201000000010000\n"
+  pub torn_header : answer_text
+      (codes "00\n" ++ codes "0c000100000000000000010000000000000011111111000000000200000000000000000000000000000000000000000000000000\n"
+      ++ codes "0c000200000000000000020000000000000022222222333333330401000000000000000000000000000000004444444400000000\n")
       ≡ codes "00010001\n00010003\n0201000000010000\n"
   pub no_frame : answer_text (codes "00\n") ≡ codes "R08\n"
   pub wrong_mark : answer_text (codes "02\n") ≡ codes "R10\n"

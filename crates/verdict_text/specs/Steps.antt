@@ -1,4 +1,4 @@
--- What the steps of `answer` leave of the text that a reader has.
+-- What the steps of `answer` leave of the text that a reader has (docs/FORMAT.md, "The program verdicts").
 use Rattle.std.specs.Prelude.{◌≡◌, ℕ, ◌+◌, nat_lt, Bool, List, length, take, drop, IfSome, Some}
 use Rattle.std.specs.declared.option.Option.{Option}
 

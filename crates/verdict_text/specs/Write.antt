@@ -14,12 +14,15 @@ use Rattle.verdict_text.specs.Read.{newline}
 abbrev pub line : List ℕ → List ℕ
 line bytes = encode_lower bytes ++ newline ∷ []
 
--- The widths of a verdict's line and of the last one.
+-- The widths of a verdict's line, of a judgement and of its line, the last one.
 abbrev pub verdict_line : ℕ
 verdict_line = 2 * verdict_width + 1
 
+abbrev pub judgement_width : ℕ
+judgement_width = 8
+
 abbrev pub last_line : ℕ
-last_line = 17
+last_line = 2 * judgement_width + 1
 
 -- R and two decimal digits.
 abbrev pub refusal_line : ℕ → List ℕ

@@ -6,7 +6,7 @@ ghost use Rattle.std.specs.IoError.{error_kind};
 ghost use Rattle.judge.specs.Frames.{verdict_width};
 ghost use Rattle.verdict_text.specs.Read.{line_width};
 ghost use Rattle.verdict_text.specs.Write.{verdict_line, last_line};
-ghost use Rattle.verdict_text.specs.Answer.{refusal_number, is_long, judged, response_text, Left, Written, LosesFewer, AppendsFront, cause};
+ghost use Rattle.verdict_text.specs.Answer.{refusal_number, is_long, most_pairs, judged, response_text, Left, Written, LosesFewer, AppendsFront, cause};
 ghost use Rattle.verdict_text.specs.Steps.{Fills, Reads};
 ghost use Rattle.verdict_text.specs.Examples.{TextExamples};
 
@@ -191,7 +191,7 @@ fn judged(
     more: bool,
     verdicts: &mut [u8; VERDICTS],
 ) -> Result<(usize, Judgement), Refusal>
-    ensures { MatchResult result (λ done. (judged text.now more ≡ Ok (take (done.0 * verdict_width) verdicts.new, done.1)) × (done.0 ≤ 624))
+    ensures { MatchResult result (λ done. (judged text.now more ≡ Ok (take (done.0 * verdict_width) verdicts.new, done.1)) × (done.0 ≤ most_pairs))
         (λ refusal. judged text.now more ≡ Err refusal) }
 {
     if is_long(text.len(), more) {

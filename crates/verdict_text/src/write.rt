@@ -6,10 +6,12 @@ ghost use Rattle.verdict_text.specs.Write.{line, verdict_line, last_line, refusa
 use judge::frames::VERDICT;
 use judge::verdict::Judgement;
 
-/// The widths of a verdict's line and of the last one.
+/// The widths of a verdict's line, of a judgement and of its line, the last one.
 pub(crate) const VERDICT_LINE: usize = 2 * VERDICT + 1;
 
-pub(crate) const LAST_LINE: usize = 17;
+const JUDGEMENT: usize = 8;
+
+pub(crate) const LAST_LINE: usize = 2 * JUDGEMENT + 1;
 
 // Writes a line of these bytes at a place, and tells where it ends.
 fn write_line(output: &mut [u8], at: usize, bytes: &[u8]) -> usize
@@ -26,7 +28,7 @@ fn write_line(output: &mut [u8], at: usize, bytes: &[u8]) -> usize
 }
 
 // Heal slot, heal pair, writable, clean, refused.
-fn judgement_bytes(j: Judgement) -> [u8; 8]
+fn judgement_bytes(j: Judgement) -> [u8; JUDGEMENT]
     ensures { result ≡ judgement_bytes j }
 {
     let [p0, p1, p2, p3, ..] = j.heal_pair().to_le_bytes();
