@@ -537,7 +537,7 @@ static int cut_store(struct store *store, char **words) {
 
 /* ---- Making a store ---- */
 
-/* The regions of the made store, in blocks behind the table: both headers lie in front, the data behind them. */
+/* The regions of the made store, in blocks after the table: both headers first, then the data. */
 static const struct region {
     const char *name;
     uint8_t kind;
@@ -630,7 +630,7 @@ static int make_store(const char *path) {
 
 /* ---- The command line ---- */
 
-/* The commands on a store that is there, with the fewest and the most words that they take behind IMAGE. */
+/* The commands on a store that is there, with the fewest and the most words that they take after IMAGE. */
 static const struct command {
     const char *name;
     int least, most;
