@@ -40,10 +40,10 @@ pub const PART: Part = Part {
 
 const LONGEST: usize = 40;
 
-/// How far behind the end positions and counts go one by one.
+/// How far past the end positions and counts go one by one.
 const BEHIND: usize = 9;
 
-/// Positions and counts far behind any end.
+/// Positions and counts far past any end.
 const HUGE: [usize; 14] = [
     usize::MAX,
     usize::MAX - 1,
@@ -89,7 +89,7 @@ fn round(run: &mut Run) -> Checked {
     write_bytes(run, len, position, count)
 }
 
-/// Every place up to and behind the end of `len` bytes, and those far behind.
+/// Every place up to and past the end of `len` bytes, and those far past it.
 fn places(len: usize) -> impl Iterator<Item = usize> {
     (0..=len + BEHIND).chain(HUGE)
 }

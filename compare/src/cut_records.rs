@@ -126,7 +126,7 @@ fn new_entries(rng: &mut Rng, most: usize) -> (u32, Vec<u8>) {
     (next_seq, random_entries(rng, n, next_seq))
 }
 
-/// The same entries with one changed behind its number and zeros, one less, one more, or as they are.
+/// The same entries with one changed after its number and zeros, one less, one more, or as they are.
 fn later_entries(rng: &mut Rng, before: &[u8], most: usize) -> (u32, Vec<u8>) {
     let next_seq = get(before, NEXT_SEQ) as u32;
     let mut entries = before[PAGE_HEADER..].to_vec();

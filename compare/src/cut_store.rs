@@ -143,8 +143,8 @@ fn encode(at: &PairIdentity, slot: usize, version: &Version, record: &[u8]) -> (
     (bytes(&written), checksum.get())
 }
 
-/// A correct write of any pair. What counts for nothing in the slot below it is filled here: bytes behind a blank header
-/// or behind an older payload, anything or what is about to be written there.
+/// A correct write of any pair. What counts for nothing in the slot below it is filled here: bytes after a blank header
+/// or after an older payload, anything or what is about to be written there.
 pub fn random_write(rng: &mut Rng, store: &mut [Pair]) -> Write {
     let highest = store.iter().map(|pair| pair.number).max().unwrap_or(0);
     let written = if rng.one_in(2) { 0 } else { rng.below(store.len()) };

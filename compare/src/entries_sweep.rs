@@ -206,7 +206,7 @@ fn names(run: &mut Run) -> Checked {
     Ok(())
 }
 
-/// Buffers around the 96 bytes; those behind them may be anything.
+/// Buffers around the 96 bytes; those after them may be anything.
 fn lengths(run: &mut Run) -> Checked {
     for len in 0..=2 * ENTRY + 1 {
         for _ in 0..4 {

@@ -21,7 +21,7 @@ pub const FAULTS: &[Fault<Case>] = &[
         insert_bad_run(&mut name, rng);
         case.entry.name = padded(&name);
     }),
-    Fault::new("a byte behind the name", 35, |case, rng| {
+    Fault::new("a byte after the name", 35, |case, rng| {
         case.entry.name = padded(b"a");
         case.entry.name[2 + rng.below(NAME_MAX - 2)] = b'b';
     }),
@@ -53,7 +53,7 @@ pub const FAULTS: &[Fault<Case>] = &[
         case.limits.table_end = 0;
         case.entry.header_a = case.entry.span_start.wrapping_sub(case.block());
     }),
-    Fault::new("A behind the span", 39, |case, _| case.entry.header_a = case.entry.span_end),
+    Fault::new("A past the span", 39, |case, _| case.entry.header_a = case.entry.span_end),
     Fault::new("B in a block", 13, |case, rng| case.entry.header_b |= in_block(case, rng)),
     Fault::new("B ends past 2^64", 39, |case, _| case.entry.header_b = case.block().wrapping_neg()),
     Fault::new("B before the table's end", 39, b_before_the_table_end),
@@ -61,7 +61,7 @@ pub const FAULTS: &[Fault<Case>] = &[
         case.limits.table_end = 0;
         case.entry.header_b = case.entry.span_start.wrapping_sub(case.block());
     }),
-    Fault::new("B behind the span", 39, |case, _| case.entry.header_b = case.entry.span_end),
+    Fault::new("B past the span", 39, |case, _| case.entry.header_b = case.entry.span_end),
     Fault::new("equal headers", 39, |case, _| case.entry.header_b = case.entry.header_a),
     Fault::new("footprint 0", 40, |case, _| case.entry.footprint_seq = 0),
     Fault::new("footprint above the page's", 40, |case, rng| {
@@ -107,7 +107,7 @@ fn in_block(case: &Case, rng: &mut Rng) -> u64 {
     rng.between(1, case.block() - 1)
 }
 
-/// A stands behind the table's end.
+/// A stands past the table's end.
 fn b_before_the_table_end(case: &mut Case, rng: &mut Rng) {
     let (low, high) = (case.entry.header_a.min(case.entry.header_b), case.entry.header_a.max(case.entry.header_b));
     case.entry.header_a = high;

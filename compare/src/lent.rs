@@ -6,10 +6,10 @@ use crate::rng::Rng;
 use crate::value::{hex, Value};
 use std::cell::Cell;
 
-/// Bytes before and behind a lent buffer that no call may change.
+/// Bytes before and after a lent buffer that no call may change.
 const GUARD: usize = 16;
 
-/// Cells before and behind a lent cell that no call may change.
+/// Cells before and after a lent cell that no call may change.
 const GUARD_CELLS: usize = 8;
 
 const ALIGNMENT: usize = 8;
@@ -24,7 +24,7 @@ pub struct Lent {
 }
 
 impl Lent {
-    /// Holds `content`, beginning `shift` bytes behind an aligned address.
+    /// Holds `content`, beginning `shift` bytes after an aligned address.
     pub fn new(rng: &mut Rng, content: &[u8], shift: usize) -> Self {
         let len = content.len();
         let mut before = vec![0; len + shift + ALIGNMENT + 2 * GUARD];

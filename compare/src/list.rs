@@ -44,7 +44,7 @@ pub fn print(fill: fn(&mut List)) -> ExitCode {
     ExitCode::SUCCESS
 }
 
-/// Bytes behind their length in 2 bytes.
+/// Bytes after their length in 2 bytes.
 pub fn with_len(bytes: &[u8]) -> Vec<u8> {
     [&(bytes.len() as u16).packed()[..], bytes].concat()
 }

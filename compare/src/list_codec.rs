@@ -1,6 +1,6 @@
 //! The fixed list of the checksum and the cursor.
 //!
-//! Sizes have 8 bytes; a buffer comes last, or behind its length in 2 bytes where a field follows.
+//! Sizes have 8 bytes; a buffer comes last, or after its length in 2 bytes where a field follows.
 //!
 //! | NAME | INPUT | EXPECTED |
 //! |---|---|---|

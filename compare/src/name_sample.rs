@@ -10,7 +10,7 @@ pub const NAME_MAX: usize = 24;
 pub const EDGE_CHARACTERS: [char; 10] =
     ['\u{1}', '\u{7f}', '\u{80}', '\u{7ff}', '\u{800}', '\u{d7ff}', '\u{e000}', '\u{ffff}', '\u{10000}', '\u{10ffff}'];
 
-/// Characters of two, three and four bytes cut short, without a byte that belongs behind them.
+/// Characters of two, three and four bytes cut short, without a byte that belongs after them.
 const CUT_SHORT: [&[u8]; 11] = [
     &[0xc2],
     &[0xdf],
@@ -135,12 +135,12 @@ pub fn random_bytes(rng: &mut Rng) -> Vec<u8> {
     }
 }
 
-/// The first 24 bytes, with zeros behind fewer.
+/// The first 24 bytes, with zeros after fewer.
 pub fn padded(name: &[u8]) -> [u8; NAME_MAX] {
     std::array::from_fn(|at| name.get(at).copied().unwrap_or(0))
 }
 
-/// Stored bytes that may be a name or not, now and then with something behind the first zero.
+/// Stored bytes that may be a name or not, now and then with something after the first zero.
 pub fn random_stored(rng: &mut Rng) -> [u8; NAME_MAX] {
     let mut stored = padded(&random_bytes(rng));
     if rng.one_in(4) {

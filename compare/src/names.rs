@@ -25,7 +25,7 @@ pub const PART: Part = Part {
     round,
 };
 
-/// Bytes on both sides of every limit that a byte behind the lead has.
+/// Bytes on both sides of every limit that a byte after the lead has.
 const BEHIND_LEAD: [u8; 8] = [0x00, 0x41, 0x7f, 0x80, 0x8f, 0xbf, 0xc0, 0xff];
 
 const REPEATS: usize = 200;
@@ -73,7 +73,7 @@ fn one_and_two_bytes(run: &mut Run) -> Checked {
     Ok(())
 }
 
-/// Every second byte behind every lead, and the others at their limits.
+/// Every second byte after every lead, and the others at their limits.
 fn three_and_four_bytes(run: &mut Run) -> Checked {
     for first in 0xe0..=0xff {
         for second in 0..=255 {
@@ -102,7 +102,7 @@ fn every_position(run: &mut Run) -> Checked {
     Ok(())
 }
 
-/// A zero at every place of a name of every length; behind the first zero of a stored name one other byte.
+/// A zero at every place of a name of every length; after the first zero of a stored name one other byte.
 fn zeros(run: &mut Run) -> Checked {
     for len in 1..=NAME_MAX + 1 {
         for at in 0..len {

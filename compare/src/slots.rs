@@ -79,7 +79,7 @@ pub fn damaged(rng: &mut Rng, mut sample: Sample) -> Sample {
     }
 }
 
-/// The first `cut` bytes of a new version, and behind them what was there before.
+/// The first `cut` bytes of a new version, and after them what was there before.
 pub fn torn(new: &Sample, below: &[u8], cut: usize) -> Sample {
     let slot = [&new.slot[..cut], &below[cut..]].concat();
     Sample { slot, ..*new }

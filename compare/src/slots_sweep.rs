@@ -97,7 +97,7 @@ fn field_values(run: &mut Run, form: &Form) -> Checked {
     Ok(())
 }
 
-/// Header lengths with payload lengths around what fits behind them; the header checksum left, made to fit, and taken over
+/// Header lengths with payload lengths around what fits after them; the header checksum left, made to fit, and taken over
 /// 128 bytes whatever the length.
 fn header_lengths(run: &mut Run, form: &Form) -> Checked {
     for header_len in [0, 1, 8, 11, 12, 13, 127, 128, 129, 130, 200, 511, 512, 513, 0x7fff, 0x8000, 0xffff] {
@@ -174,7 +174,7 @@ fn every_bit(run: &mut Run, form: &Form) -> Checked {
     Ok(())
 }
 
-/// Anything behind the payload.
+/// Anything after the payload.
 fn padding(run: &mut Run, form: &Form) -> Checked {
     for payload_len in 0..form.room() {
         let mut sample = Sample::written(&mut run.rng, &Form { payload_len, ..*form });
@@ -249,7 +249,7 @@ fn longest_header(run: &mut Run, mut sample: Sample) -> Checked {
     compare_reads(run, &sample)
 }
 
-/// No byte of the header, or one, and anything behind it.
+/// No byte of the header, or one, and anything after it.
 fn blank_slots(run: &mut Run) -> Checked {
     let form = Form { log2: SMALLEST_LOG2, format: 2, numbered: true, payload_len: 0 };
     let mut sample = Sample::written(&mut run.rng, &form);

@@ -20,10 +20,10 @@ const A: &str = "sio_winner_payload: A";
 const B: &str = "sio_winner_payload: B";
 const PLACE: &str = "sio_winner_payload: place";
 
-const SOME: &str = "behind 128 bytes";
+const SOME: &str = "after 128 bytes";
 const EMPTY: &str = "of no bytes";
 const FULL: &str = "to the slot's end";
-const LONG_HEADER: &str = "behind a longer header";
+const LONG_HEADER: &str = "after a longer header";
 
 const PLACES: &[Answer] =
     &[Answer::Decision(SOME), Answer::Decision(EMPTY), Answer::Decision(FULL), Answer::Decision(LONG_HEADER)];
@@ -166,7 +166,7 @@ fn follow(rng: &mut Rng, slots: &mut [Sample; 2], b_generation: u64) {
     slots[newer].seal_header();
 }
 
-/// A header longer than 128 bytes and a payload that fits behind it: Valid in format 1 only.
+/// A header longer than 128 bytes and a payload that fits after it: Valid in format 1 only.
 fn longer_header(sample: &mut Sample, rng: &mut Rng) {
     let size = sample.slot.len() as u64;
     let header_len = rng.between(HEADER as u64 + 1, size.min(0xffff));
