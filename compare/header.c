@@ -5,6 +5,8 @@
 typedef void (*function)(void);
 
 static const function functions[] = {
+    (function)&sio_version,
+
     (function)&sio_crc32c,
     (function)&sio_crc32c_append,
     (function)&sio_crc32c_gap,

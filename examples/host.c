@@ -8,9 +8,9 @@
  *     host cut IMAGE COPY PAIR K    writes a copy in which a power cut ended a write to a pair after K bytes
  *
  * The exit status is 0 where all was done, and of judge where every pair is Confirmed and every record accepted; 1 where
- * something is refused, damaged or not there to be healed; 2 for a bad command line; 3 for a file that could not be opened,
- * read or written. A refusal of the library is printed with its number. No file that exists is written to: IMAGE of make
- * and COPY must be new.
+ * something is refused, damaged or not there to be healed, or where the library has another version of the interface than the
+ * header; 2 for a bad command line; 3 for a file that could not be opened, read or written. A refusal of the library is printed
+ * with its number. No file that exists is written to: IMAGE of make and COPY must be new.
  *
  * The image. Its layout is the example's own, in line with docs/FORMAT.md, "The volume record". B is the block size, T
  * the size of a table slot, P the number of table pages, and p counts them from 0:
@@ -35,27 +35,18 @@
 #include "store_io.h"
 
 /* The index of a slot, and the exit status. */
-enum { A, B };
+enum { A = SIO_INDEX_A, B = SIO_INDEX_B };
 enum { DONE, FAULT, USAGE, IO };
 
 #define LOG2_BLOCK 12
 #define BLOCK (UINT64_C(1) << LOG2_BLOCK)
 #define MAX_SLOT 65536
 #define MAX_PAGES 1024
-#define PART 26  /* bytes of a frame for one slot */
-#define ENTRY 96 /* bytes of a table entry */
 
-#define FORMAT 2
 #define NUMBERED 1
 #define VOLUME0 UINT64_C(0x6f692d65726f7473) /* "store-io" */
 #define VOLUME1 UINT64_C(0x656c706d61786520) /* " example" */
 #define PAGE_OBJECT (UINT64_C(1) << 61)
-
-/* The values of a Valid slot, as sio_validate orders them. */
-enum { GENERATION, OWNER_GENERATION, CRC, PREV_CRC, READ_ONLY_FLAGS, COMPAT_FLAGS, NUMBER, START, LENGTH, VALUES };
-
-/* The fields of a volume record, as sio_volume_decode orders them. */
-enum { LOG2, LOG2_TABLE, DEVICE, OWNER, TABLE_OFFSET, CREATED, FEATURES, PAGES, ENTRIES, CLEAN, FLAGS, FIELDS };
 
 /* Where a pair lies, and as what it is read. */
 struct place {
@@ -68,18 +59,18 @@ struct place {
 struct store {
     FILE *file;
     uint64_t file_len;
-    uint64_t record[FIELDS];
+    uint64_t record[SIO_VOLUME_VALUES];
     uint64_t table_end;
     size_t pairs;
-    uint64_t judgement[5];
+    uint64_t judgement[SIO_JUDGEMENT_VALUES];
 };
 
 /* The current record of a pair: the winner (0 none, 1 A, 2 B), the values of both slots, and the payload, a part of the
  * winner's slot. */
 struct current {
     uint32_t winner;
-    uint64_t values[2][VALUES];
-    uint8_t report[6];
+    uint64_t values[2][SIO_INFO_VALUES];
+    uint8_t report[SIO_REPORT_VALUES];
     const uint8_t *payload;
     size_t len;
 };
@@ -87,8 +78,8 @@ struct current {
 static uint8_t slots[2][MAX_SLOT];
 static uint8_t fresh[MAX_SLOT];
 static uint8_t payload[MAX_SLOT];
-static uint8_t frames[MAX_PAGES + 1][2][PART];
-static uint8_t verdicts[MAX_PAGES + 1][4];
+static uint8_t frames[MAX_PAGES + 1][2][SIO_PART_LEN];
+static uint8_t verdicts[MAX_PAGES + 1][SIO_VERDICT_LEN];
 
 static const char *const status_names[] = {
     "ReadError", "BadLength", "Blank",       "BadMagic",  "BadHeaderCrc",  "UnsupportedVersion", "Incompatible",
@@ -134,9 +125,9 @@ static struct place place_of(const struct store *store, size_t pair) {
     if (pair == 0) {
         return (struct place){0, {0, BLOCK}, LOG2_BLOCK};
     }
-    uint8_t log2 = (uint8_t)store->record[LOG2_TABLE];
+    uint8_t log2 = (uint8_t)store->record[SIO_VOLUME_LOG2_TABLE_SLOT_SIZE];
     uint64_t slot = UINT64_C(1) << log2;
-    uint64_t a = store->record[TABLE_OFFSET] + (pair - 1) * 2 * slot;
+    uint64_t a = store->record[SIO_VOLUME_TABLE_OFFSET] + (pair - 1) * 2 * slot;
     return (struct place){PAGE_OBJECT + (pair - 1), {a, a + slot}, log2};
 }
 
@@ -160,20 +151,20 @@ static void read_current(const struct store *store, size_t pair, struct current 
     size_t b_len = read_slot(store->file, place, B);
     size_t start;
     current->winner = sio_winner_payload(slots[A], a_len, slots[B], b_len, VOLUME0, VOLUME1, place.object, place.offset[A],
-                                         place.offset[B], place.log2, FORMAT, NUMBERED, &current->values[A],
+                                         place.offset[B], place.log2, SIO_FORMAT_2, NUMBERED, &current->values[A],
                                          &current->values[B], &current->report, &start, &current->len);
-    current->payload = slots[current->winner == 2 ? B : A] + start;
+    current->payload = slots[current->winner == SIO_SLOT_B ? B : A] + start;
 }
 
 static const uint64_t *winner_values(const struct current *current) {
-    return current->values[current->winner - 1];
+    return current->values[current->winner - SIO_SLOT_A];
 }
 
 /* Holds the volume record to the file and to this example's limits. */
 static int check_record(struct store *store) {
-    uint8_t log2_block = (uint8_t)store->record[LOG2];
-    uint8_t log2_table = (uint8_t)store->record[LOG2_TABLE];
-    uint32_t pages = (uint32_t)store->record[PAGES];
+    uint8_t log2_block = (uint8_t)store->record[SIO_VOLUME_LOG2_BLOCK_SIZE];
+    uint8_t log2_table = (uint8_t)store->record[SIO_VOLUME_LOG2_TABLE_SLOT_SIZE];
+    uint32_t pages = (uint32_t)store->record[SIO_VOLUME_TABLE_PAGES];
     uint32_t refusal = sio_check_file_len(log2_block, log2_table, pages, store->file_len);
     if (refusal == 0) {
         refusal = sio_table_end(log2_block, log2_table, pages, &store->table_end);
@@ -196,9 +187,9 @@ static int check_record(struct store *store) {
 static int read_volume(struct store *store) {
     struct current current;
     read_current(store, 0, &current);
-    if (current.winner == 0) {
-        printf("pair 0: A %s, B %s: %s, no volume record\n", status_names[current.report[0]],
-               status_names[current.report[1]], standing_names[current.report[2]]);
+    if (current.winner == SIO_SLOT_NONE) {
+        printf("pair 0: A %s, B %s: %s, no volume record\n", status_names[current.report[SIO_REPORT_A_STATUS]],
+               status_names[current.report[SIO_REPORT_B_STATUS]], standing_names[current.report[SIO_REPORT_STANDING]]);
         return FAULT;
     }
     uint32_t refusal = sio_volume_decode(current.payload, current.len, &store->record);
@@ -206,13 +197,17 @@ static int read_volume(struct store *store) {
 }
 
 /* Fills a slot's part of its frame. The part of a slot that could not be read, ReadError, is zeros. */
-static void frame_slot(struct place place, uint32_t index, size_t len, uint8_t (*part)[PART]) {
+static void frame_slot(struct place place, uint32_t index, size_t len, uint8_t (*part)[SIO_PART_LEN]) {
     if (len == 0) {
         memset(part, 0, sizeof *part);
     } else {
-        sio_frame_slot(slots[index], len, VOLUME0, VOLUME1, place.object, place.offset[index], index, place.log2, FORMAT,
-                       NUMBERED, part);
+        sio_frame_slot(slots[index], len, VOLUME0, VOLUME1, place.object, place.offset[index], index, place.log2,
+                       SIO_FORMAT_2, NUMBERED, part);
     }
+}
+
+static uint8_t clean_mark(const struct store *store) {
+    return (uint8_t)store->record[SIO_VOLUME_CLEAN_CLOSE];
 }
 
 static int judge_store(struct store *store) {
@@ -221,7 +216,7 @@ static int judge_store(struct store *store) {
         frame_slot(place, A, read_slot(store->file, place, A), &frames[pair][A]);
         frame_slot(place, B, read_slot(store->file, place, B), &frames[pair][B]);
     }
-    uint32_t refusal = sio_judge(frames[0][0], store->pairs * sizeof frames[0], (uint8_t)store->record[CLEAN], verdicts[0],
+    uint32_t refusal = sio_judge(frames[0][0], store->pairs * sizeof frames[0], clean_mark(store), verdicts[0],
                                  store->pairs * sizeof verdicts[0], &store->judgement);
     return refusal == 0 ? DONE : refused("judge", refusal);
 }
@@ -245,83 +240,90 @@ static int open_store(const char *path, struct store *store) {
 
 /* An entry that passes its checks; or the number of its refusal, its name if it has one, and the span it keeps reserved. */
 static int print_entry(const struct store *store, const uint8_t *entry, uint64_t number) {
-    uint64_t found[13];
-    uint64_t span[2];
-    uint8_t name[24];
+    uint64_t found[SIO_ENTRY_VALUES];
+    uint64_t span[SIO_SPAN_VALUES];
+    uint8_t name[SIO_NAME_LEN];
     uint8_t len;
-    uint32_t refusal = sio_check_entry(entry, ENTRY, LOG2_BLOCK, store->table_end, store->file_len, number, &found, &name,
-                                       &len);
+    uint32_t refusal = sio_check_entry(entry, SIO_ENTRY_LEN, LOG2_BLOCK, store->table_end, store->file_len, number, &found,
+                                       &name, &len);
     if (refusal == 0) {
-        printf("    %" PRIu64 " %.*s: %s, %" PRIu64 " of %" PRIu64 " bytes, span %" PRIu64 " to %" PRIu64 "\n", found[0],
-               len, (const char *)name, kind_names[found[1]], found[8], found[9], found[10], found[11]);
+        printf("    %" PRIu64 " %.*s: %s, %" PRIu64 " of %" PRIu64 " bytes, span %" PRIu64 " to %" PRIu64 "\n",
+               found[SIO_ENTRY_SEQ], len, (const char *)name, kind_names[found[SIO_ENTRY_KIND]], found[SIO_ENTRY_DATA_SIZE],
+               found[SIO_ENTRY_CAPACITY], found[SIO_ENTRY_SPAN_START], found[SIO_ENTRY_SPAN_END]);
         return DONE;
     }
-    sio_entry_name(entry, ENTRY, &name, &len);
-    sio_reserved_span(entry, ENTRY, LOG2_BLOCK, store->table_end, store->file_len, &span);
+    sio_entry_name(entry, SIO_ENTRY_LEN, &name, &len);
+    sio_reserved_span(entry, SIO_ENTRY_LEN, LOG2_BLOCK, store->table_end, store->file_len, &span);
     printf("    %.*s: refused with %" PRIu32 ", reserves %" PRIu64 " to %" PRIu64 "\n", len, (const char *)name, refusal,
-           span[0], span[1]);
+           span[SIO_SPAN_START], span[SIO_SPAN_END]);
     return FAULT;
 }
 
 static int print_page(const struct store *store, size_t pair, const struct current *current) {
-    uint64_t number = winner_values(current)[NUMBER];
-    uint64_t page[5];
+    uint64_t number = winner_values(current)[SIO_INFO_META_SEQ];
+    uint64_t page[SIO_PAGE_VALUES];
     uint32_t refusal = sio_decode_page(current->payload, current->len, (uint32_t)(pair - 1),
-                                       (uint16_t)store->record[ENTRIES], &page);
+                                       (uint16_t)store->record[SIO_VOLUME_ENTRIES_PER_PAGE], &page);
     if (refusal != 0) {
         return refused("    page", refusal);
     }
     printf("    generation %" PRIu64 ", number %" PRIu64 ": page %" PRIu64 ", next seq %" PRIu64 ", entries %" PRIu64 "\n",
-           winner_values(current)[GENERATION], number, page[0], page[1], page[2]);
+           winner_values(current)[SIO_INFO_GENERATION], number, page[SIO_PAGE_INDEX], page[SIO_PAGE_NEXT_SEQ],
+           page[SIO_PAGE_COUNT]);
     int status = DONE;
-    for (size_t i = 0; i < page[2]; i++) {
-        status |= print_entry(store, current->payload + page[3] + i * ENTRY, number);
+    const uint8_t *entries = current->payload + page[SIO_PAGE_ENTRIES_START];
+    for (size_t i = 0; i < page[SIO_PAGE_COUNT]; i++) {
+        status |= print_entry(store, entries + i * SIO_ENTRY_LEN, number);
     }
     return status;
 }
 
 static int print_volume(const struct current *current) {
-    uint64_t record[FIELDS];
+    uint64_t record[SIO_VOLUME_VALUES];
     uint32_t refusal = sio_volume_decode(current->payload, current->len, &record);
     if (refusal != 0) {
         return refused("    volume record", refusal);
     }
     printf("    generation %" PRIu64 ", number %" PRIu64 ": volume record, owner %" PRIu64 ", created %" PRIu64
            ", clean mark %" PRIu64 "\n",
-           winner_values(current)[GENERATION], winner_values(current)[NUMBER], record[OWNER], record[CREATED],
-           record[CLEAN]);
+           winner_values(current)[SIO_INFO_GENERATION], winner_values(current)[SIO_INFO_META_SEQ],
+           record[SIO_VOLUME_OWNER_GENERATION], record[SIO_VOLUME_CREATED_UNIX_S], record[SIO_VOLUME_CLEAN_CLOSE]);
     return DONE;
 }
 
 /* Reads a pair's record from the slot that the verdict names. */
 static int read_judged(const struct store *store, size_t pair, struct current *current) {
     read_current(store, pair, current);
-    if (current->winner != verdicts[pair][1]) {
+    if (current->winner != verdicts[pair][SIO_VERDICT_WINNER]) {
         return fault("    the file has changed since it was judged");
     }
-    return current->winner == 0 ? fault("    no record") : DONE;
+    return current->winner == SIO_SLOT_NONE ? fault("    no record") : DONE;
 }
 
 /* What a sound pair has none of: two Valid slots whose generations or checksums do not follow each other. */
 static int print_chain(const struct current *current) {
-    if (current->report[4] != 0) {
+    if (current->report[SIO_REPORT_GENERATION_GAP] != 0) {
         return fault("    the generations are not consecutive");
     }
-    return current->report[5] != 0 ? fault("    the winner records another checksum than the other slot's") : DONE;
+    return current->report[SIO_REPORT_CHAIN_BREAK] != 0
+               ? fault("    the winner records another checksum than the other slot's")
+               : DONE;
 }
 
 /* A pair: status and verdict of its slots, its standing, and its record as it reads back. */
 static int print_pair(const struct store *store, size_t pair) {
     const uint8_t *verdict = verdicts[pair];
     struct current current;
-    printf("pair %zu: A %s %s, B %s %s: %s, winner %s\n", pair, status_names[frames[pair][A][0]], verdict_names[verdict[2]],
-           status_names[frames[pair][B][0]], verdict_names[verdict[3]], standing_names[verdict[0]], slot_names[verdict[1]]);
+    printf("pair %zu: A %s %s, B %s %s: %s, winner %s\n", pair, status_names[frames[pair][A][SIO_PART_STATUS]],
+           verdict_names[verdict[SIO_VERDICT_A]], status_names[frames[pair][B][SIO_PART_STATUS]],
+           verdict_names[verdict[SIO_VERDICT_B]], standing_names[verdict[SIO_VERDICT_STANDING]],
+           slot_names[verdict[SIO_VERDICT_WINNER]]);
     int status = read_judged(store, pair, &current);
     if (status == DONE) {
         status = pair == 0 ? print_volume(&current) : print_page(store, pair, &current);
         status |= print_chain(&current);
     }
-    return verdict[0] == 0 ? status : FAULT;
+    return verdict[SIO_VERDICT_STANDING] == SIO_STANDING_CONFIRMED ? status : FAULT;
 }
 
 static int print_store(struct store *store, char **words) {
@@ -330,28 +332,27 @@ static int print_store(struct store *store, char **words) {
     (void)words;
     printf("file %" PRIu64 ", block %" PRIu64 ", table slot %" PRIu64 ", pages %" PRIu64 ", table %" PRIu64 " to %" PRIu64
            "\n",
-           store->file_len, UINT64_C(1) << store->record[LOG2], UINT64_C(1) << store->record[LOG2_TABLE],
-           store->record[PAGES], store->record[TABLE_OFFSET], store->table_end);
+           store->file_len, UINT64_C(1) << store->record[SIO_VOLUME_LOG2_BLOCK_SIZE],
+           UINT64_C(1) << store->record[SIO_VOLUME_LOG2_TABLE_SLOT_SIZE], store->record[SIO_VOLUME_TABLE_PAGES],
+           store->record[SIO_VOLUME_TABLE_OFFSET], store->table_end);
     for (size_t pair = 0; pair < store->pairs; pair++) {
         status |= print_pair(store, pair);
     }
     printf("heal slot %s of pair %" PRIu64 ", writable %" PRIu64 ", clean %" PRIu64 ", refused %" PRIu64 "\n",
-           slot_names[judgement[0]], judgement[1], judgement[2], judgement[3], judgement[4]);
+           slot_names[judgement[SIO_JUDGEMENT_HEAL_SLOT]], judgement[SIO_JUDGEMENT_HEAL_PAIR],
+           judgement[SIO_JUDGEMENT_WRITABLE], judgement[SIO_JUDGEMENT_CLEAN], judgement[SIO_JUDGEMENT_REFUSED]);
     return status;
 }
 
 /* ---- Writing ---- */
 
-/* A planned write: its slot (0 none, 1 A, 2 B), generation, previous checksum and number, as the library orders them. */
-enum { PLAN_SLOT, PLAN_GENERATION, PLAN_PREV_CRC, PLAN_NUMBER, PLAN };
-
 /* Asks for the plan of a pair's next write. */
-static int plan_next(const struct store *store, size_t pair, uint64_t (*plan)[PLAN]) {
+static int plan_next(const struct store *store, size_t pair, uint64_t (*plan)[SIO_PLAN_VALUES]) {
     uint32_t refusal = sio_plan_write(frames[0][0], store->pairs * sizeof frames[0], pair, plan);
     if (refusal != 0) {
         return refused("plan", refusal);
     }
-    return (*plan)[PLAN_SLOT] == 0 ? fault("the pair may not be written") : DONE;
+    return (*plan)[SIO_PLAN_SLOT] == SIO_SLOT_NONE ? fault("the pair may not be written") : DONE;
 }
 
 /* Encodes a planned write of a record to a pair, with the owner of the store and the winner's flags. */
@@ -359,20 +360,20 @@ static int encode_planned(const struct store *store, size_t pair, const struct c
                           const uint8_t *record, size_t len) {
     struct place place = place_of(store, pair);
     const uint64_t *winner = winner_values(current);
-    uint32_t index = (uint32_t)plan[PLAN_SLOT] - 1;
+    uint32_t index = (uint32_t)plan[SIO_PLAN_SLOT] - SIO_SLOT_A;
     uint32_t crc;
-    if (winner[READ_ONLY_FLAGS] != 0) {
+    if (winner[SIO_INFO_RO_COMPAT_FLAGS] != 0) {
         return fault("the winner has read-only flags: its pair is not written");
     }
-    uint32_t refusal = sio_encode(fresh, size_of(place), VOLUME0, VOLUME1, place.object, plan[PLAN_GENERATION],
-                                  store->record[OWNER], place.offset[index], index, place.log2,
-                                  (uint32_t)plan[PLAN_PREV_CRC], FORMAT, plan[PLAN_NUMBER],
-                                  (uint32_t)winner[COMPAT_FLAGS], record, len, &crc);
+    uint32_t refusal = sio_encode(fresh, size_of(place), VOLUME0, VOLUME1, place.object, plan[SIO_PLAN_GENERATION],
+                                  store->record[SIO_VOLUME_OWNER_GENERATION], place.offset[index], index, place.log2,
+                                  (uint32_t)plan[SIO_PLAN_PREV_HEADER_CRC32C], SIO_FORMAT_2, plan[SIO_PLAN_META_SEQ],
+                                  (uint32_t)winner[SIO_INFO_COMPAT_FLAGS], record, len, &crc);
     if (refusal != 0) {
         return refused("slot", refusal);
     }
-    printf("pair %zu, slot %s: generation %" PRIu64 ", number %" PRIu64 "\n", pair, slot_names[plan[PLAN_SLOT]],
-           plan[PLAN_GENERATION], plan[PLAN_NUMBER]);
+    printf("pair %zu, slot %s: generation %" PRIu64 ", number %" PRIu64 "\n", pair, slot_names[plan[SIO_PLAN_SLOT]],
+           plan[SIO_PLAN_GENERATION], plan[SIO_PLAN_META_SEQ]);
     return DONE;
 }
 
@@ -421,7 +422,7 @@ static int write_copy(const struct store *store, const char *path, size_t pair, 
     }
     status = copy_image(store, copy);
     if (status == DONE) {
-        status = write_at(copy, place_of(store, pair).offset[plan[PLAN_SLOT] - 1], fresh, k);
+        status = write_at(copy, place_of(store, pair).offset[plan[SIO_PLAN_SLOT] - SIO_SLOT_A], fresh, k);
     }
     return finish(copy, path, status);
 }
@@ -429,17 +430,17 @@ static int write_copy(const struct store *store, const char *path, size_t pair, 
 /* Writes the winner's record anew to the slot named for healing, cut after k bytes or, without k, to the end. What is healed is
  * the plan's alone. The judge names a slot only in a store that may be written. */
 static int heal_store(struct store *store, char **words) {
-    uint64_t heal[1 + PLAN];
+    uint64_t heal[SIO_HEAL_VALUES];
     struct current current;
     size_t k = 0;
-    uint32_t refusal = sio_plan_heal(frames[0][0], store->pairs * sizeof frames[0], (uint8_t)store->record[CLEAN], &heal);
+    uint32_t refusal = sio_plan_heal(frames[0][0], store->pairs * sizeof frames[0], clean_mark(store), &heal);
     if (refusal != 0) {
         return refused("plan", refusal);
     }
-    if (heal[1 + PLAN_SLOT] == 0) {
+    if (heal[SIO_HEAL_SLOT] == SIO_SLOT_NONE) {
         return fault("nothing to heal");
     }
-    size_t pair = (size_t)heal[0];
+    size_t pair = (size_t)heal[SIO_HEAL_PAIR];
     size_t size = size_of(place_of(store, pair));
     if (words[1] != NULL && parse(words[1], &k) != DONE) {
         return usage();
@@ -451,44 +452,50 @@ static int heal_store(struct store *store, char **words) {
     if (status != DONE) {
         return status;
     }
-    return write_copy(store, words[0], pair, &current, heal + 1, current.payload, current.len, words[1] == NULL ? size : k);
+    /* What follows the pair is a plan. */
+    return write_copy(store, words[0], pair, &current, heal + SIO_HEAL_SLOT, current.payload, current.len,
+                      words[1] == NULL ? size : k);
 }
 
 static uint32_t encode_volume(const uint64_t *record, size_t *len) {
-    return sio_volume_encode(payload, sizeof payload, (uint8_t)record[LOG2], (uint8_t)record[LOG2_TABLE],
-                             (uint16_t)record[DEVICE], record[OWNER], record[TABLE_OFFSET], record[CREATED],
-                             record[FEATURES], (uint32_t)record[PAGES], (uint16_t)record[ENTRIES], (uint32_t)record[CLEAN],
-                             (uint32_t)record[FLAGS], len);
+    return sio_volume_encode(
+        payload, sizeof payload, (uint8_t)record[SIO_VOLUME_LOG2_BLOCK_SIZE],
+        (uint8_t)record[SIO_VOLUME_LOG2_TABLE_SLOT_SIZE], (uint16_t)record[SIO_VOLUME_DEVICE_INDEX],
+        record[SIO_VOLUME_OWNER_GENERATION], record[SIO_VOLUME_TABLE_OFFSET], record[SIO_VOLUME_CREATED_UNIX_S],
+        record[SIO_VOLUME_FEATURES], (uint32_t)record[SIO_VOLUME_TABLE_PAGES], (uint16_t)record[SIO_VOLUME_ENTRIES_PER_PAGE],
+        (uint32_t)record[SIO_VOLUME_CLEAN_CLOSE], (uint32_t)record[SIO_VOLUME_FLAGS], len);
 }
 
 /* The next record of a page: the same entries, and a sequence number used up if one is left. */
 static uint32_t next_page(const struct store *store, size_t pair, const struct current *current, size_t *len) {
-    uint64_t page[5];
+    uint64_t page[SIO_PAGE_VALUES];
     uint32_t refusal = sio_decode_page(current->payload, current->len, (uint32_t)(pair - 1),
-                                       (uint16_t)store->record[ENTRIES], &page);
+                                       (uint16_t)store->record[SIO_VOLUME_ENTRIES_PER_PAGE], &page);
     if (refusal != 0) {
         return refusal;
     }
-    uint64_t next_seq = page[1] < UINT32_MAX ? page[1] + 1 : page[1];
-    return sio_encode_page(payload, sizeof payload, (uint32_t)page[0], (uint32_t)next_seq, (uint16_t)page[2],
-                           current->payload + page[3], (size_t)page[4], len);
+    uint64_t next_seq = page[SIO_PAGE_NEXT_SEQ];
+    next_seq += next_seq < UINT32_MAX;
+    return sio_encode_page(payload, sizeof payload, (uint32_t)page[SIO_PAGE_INDEX], (uint32_t)next_seq,
+                           (uint16_t)page[SIO_PAGE_COUNT], current->payload + page[SIO_PAGE_ENTRIES_START],
+                           (size_t)page[SIO_PAGE_ENTRIES_LEN], len);
 }
 
 /* A store is written to once nothing is left to heal, and its pages only without the clean mark. */
 static int may_write(const struct store *store, size_t pair) {
-    if (store->judgement[2] == 0) {
+    if (store->judgement[SIO_JUDGEMENT_WRITABLE] == 0) {
         return fault("the store may not be written");
     }
-    if (store->judgement[0] != 0) {
+    if (store->judgement[SIO_JUDGEMENT_HEAL_SLOT] != SIO_SLOT_NONE) {
         return fault("a slot is to be healed first");
     }
-    return pair != 0 && store->record[CLEAN] != 0 ? fault("the clean mark is set: pair 0 is written first") : DONE;
+    return pair != 0 && clean_mark(store) != 0 ? fault("the clean mark is set: pair 0 is written first") : DONE;
 }
 
 /* Writes the next record of a pair, cut after k bytes. A volume record is encoded from what the store says. */
 static int write_next(const struct store *store, const char *path, size_t pair, size_t k) {
     struct current current;
-    uint64_t plan[PLAN];
+    uint64_t plan[SIO_PLAN_VALUES];
     size_t len = 0;
     int status = read_judged(store, pair, &current);
     if (status == DONE) {
@@ -510,7 +517,7 @@ static int close_store(struct store *store, char **words) {
     if (status != DONE) {
         return status;
     }
-    store->record[CLEAN] = 1;
+    store->record[SIO_VOLUME_CLEAN_CLOSE] = 1;
     return write_next(store, words[0], 0, (size_t)BLOCK);
 }
 
@@ -529,8 +536,8 @@ static int cut_store(struct store *store, char **words) {
         return status;
     }
     if (pair == 0) {
-        store->record[OWNER]++;
-        store->record[CLEAN] = 0;
+        store->record[SIO_VOLUME_OWNER_GENERATION]++;
+        store->record[SIO_VOLUME_CLEAN_CLOSE] = 0;
     }
     return write_next(store, words[0], pair, k);
 }
@@ -545,7 +552,7 @@ static const struct region {
     uint64_t start, data, end;
     uint64_t data_size;
     uint64_t footprint;
-} regions[] = {{"journal", 1, 1, 0, 2, 4, 512, 4}, {"settings", 3, 0, 4, 6, 6, 0, 5}};
+} regions[] = {{"journal", SIO_KIND_APPEND, 1, 0, 2, 4, 512, 4}, {"settings", SIO_KIND_SLOT, 0, 4, 6, 6, 0, 5}};
 
 #define REGION_BLOCKS 6
 
@@ -558,21 +565,21 @@ static const struct write {
 
 static uint32_t encode_entry(uint8_t *entry, uint32_t seq, const struct region *region, uint64_t table_end) {
     uint64_t start = table_end + region->start * BLOCK;
-    uint8_t name[24];
+    uint8_t name[SIO_NAME_LEN];
     uint8_t name_len;
     size_t written;
     uint32_t refusal = sio_region_name((const uint8_t *)region->name, strlen(region->name), &name, &name_len);
     if (refusal != 0) {
         return refusal;
     }
-    return sio_write_entry(entry, ENTRY, seq, region->kind, 1, 0, 0, (const uint8_t(*)[24])&name, 0, region->extents, start,
+    return sio_write_entry(entry, SIO_ENTRY_LEN, seq, region->kind, SIO_STATE_READY, 0, 0, name, 0, region->extents, start,
                            start + BLOCK, region->data_size, (region->end - region->data) * BLOCK, start,
                            table_end + region->end * BLOCK, region->footprint, &written);
 }
 
 /* A page with the first of the regions as its entries. */
 static uint32_t make_page(const struct store *store, const struct write *write, size_t *len) {
-    uint8_t entries[sizeof regions / sizeof regions[0]][ENTRY];
+    uint8_t entries[sizeof regions / sizeof regions[0]][SIO_ENTRY_LEN];
     uint32_t refusal = 0;
     for (uint32_t i = 0; i < write->entries && refusal == 0; i++) {
         refusal = encode_entry(entries[i], i + 1, &regions[i], store->table_end);
@@ -581,7 +588,7 @@ static uint32_t make_page(const struct store *store, const struct write *write, 
         return refusal;
     }
     return sio_encode_page(payload, sizeof payload, (uint32_t)(write->pair - 1), write->entries + 1u, write->entries,
-                           entries[0], write->entries * (size_t)ENTRY, len);
+                           entries[0], write->entries * (size_t)SIO_ENTRY_LEN, len);
 }
 
 /* Encodes and writes one generation of a pair: odd ones to slot A, even ones to B. *crc is the checksum of its last one. */
@@ -589,11 +596,14 @@ static int make_slot(struct store *store, const struct write *write, uint64_t nu
     struct place place = place_of(store, write->pair);
     uint32_t index = write->generation % 2 == 1 ? A : B;
     size_t len = 0;
-    store->record[OWNER] = write->pair == 0 ? write->generation : store->record[OWNER];
+    if (write->pair == 0) {
+        store->record[SIO_VOLUME_OWNER_GENERATION] = write->generation;
+    }
     uint32_t refusal = write->pair == 0 ? encode_volume(store->record, &len) : make_page(store, write, &len);
     if (refusal == 0) {
-        refusal = sio_encode(fresh, size_of(place), VOLUME0, VOLUME1, place.object, write->generation, store->record[OWNER],
-                             place.offset[index], index, place.log2, *crc, FORMAT, number, 0, payload, len, crc);
+        refusal = sio_encode(fresh, size_of(place), VOLUME0, VOLUME1, place.object, write->generation,
+                             store->record[SIO_VOLUME_OWNER_GENERATION], place.offset[index], index, place.log2, *crc,
+                             SIO_FORMAT_2, number, 0, payload, len, crc);
     }
     if (refusal != 0) {
         return refused("make", refusal);
@@ -604,8 +614,8 @@ static int make_slot(struct store *store, const struct write *write, uint64_t nu
 /* Makes the file: zeros to its end, then the writes. */
 static int make_image(struct store *store) {
     uint32_t crcs[3] = {0, 0, 0};
-    uint32_t refusal = sio_table_end(LOG2_BLOCK, (uint8_t)store->record[LOG2_TABLE], (uint32_t)store->record[PAGES],
-                                     &store->table_end);
+    uint32_t refusal = sio_table_end(LOG2_BLOCK, (uint8_t)store->record[SIO_VOLUME_LOG2_TABLE_SLOT_SIZE],
+                                     (uint32_t)store->record[SIO_VOLUME_TABLE_PAGES], &store->table_end);
     if (refusal != 0) {
         return refused("make", refusal);
     }
@@ -618,9 +628,12 @@ static int make_image(struct store *store) {
 }
 
 static int make_store(const char *path) {
-    struct store store = {.record = {[LOG2] = LOG2_BLOCK, [LOG2_TABLE] = LOG2_BLOCK + 1, [TABLE_OFFSET] = 2 * BLOCK,
-                                     [CREATED] = 1700000000, [PAGES] = 2}};
-    store.record[ENTRIES] = sio_entries_per_page((uint8_t)store.record[LOG2_TABLE]);
+    struct store store = {.record = {[SIO_VOLUME_LOG2_BLOCK_SIZE] = LOG2_BLOCK,
+                                     [SIO_VOLUME_LOG2_TABLE_SLOT_SIZE] = LOG2_BLOCK + 1,
+                                     [SIO_VOLUME_TABLE_OFFSET] = 2 * BLOCK,
+                                     [SIO_VOLUME_CREATED_UNIX_S] = 1700000000,
+                                     [SIO_VOLUME_TABLE_PAGES] = 2}};
+    store.record[SIO_VOLUME_ENTRIES_PER_PAGE] = sio_entries_per_page(LOG2_BLOCK + 1);
     store.file = fopen(path, "wbx");
     if (store.file == NULL) {
         return io_fault(path);
@@ -650,6 +663,11 @@ static int run(const struct command *command, char **argv) {
 }
 
 int main(int argc, char **argv) {
+    if (sio_version() != SIO_VERSION) {
+        fprintf(stderr, "host: the library has version %" PRIu32 " of the interface, the header has %d\n", sio_version(),
+                SIO_VERSION);
+        return FAULT;
+    }
     if (argc == 3 && strcmp(argv[1], "make") == 0) {
         return make_store(argv[2]);
     }

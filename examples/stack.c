@@ -18,8 +18,8 @@
 #define STACK 65536
 #define MAX_SLOT 65536
 #define MAX_PAIRS 1024
-#define PART 26
-#define ENTRY 96
+#define PART SIO_PART_LEN
+#define ENTRY SIO_ENTRY_LEN
 #define V0 1
 #define V1 2
 
@@ -34,9 +34,9 @@ static uint8_t log2_slot, log2_table;
 static size_t size, position, start, count, page_len, pairs;
 static uint16_t entries_count;
 static uint8_t a[MAX_SLOT], b[MAX_SLOT], out[MAX_SLOT], body[MAX_SLOT], page[MAX_SLOT], entries[MAX_SLOT];
-static uint8_t frames[MAX_PAIRS][2][PART], verdicts[MAX_PAIRS][4];
+static uint8_t frames[MAX_PAIRS][2][PART], verdicts[MAX_PAIRS][SIO_VERDICT_LEN];
 static uint8_t record[64];
-static uint8_t value8, kind, name[24], stored[24], id[16], part[PART], report5[5], report6[6], raw[ENTRY];
+static uint8_t value8, kind, name[24], stored[24], id[16], part[PART], report5[5], report7[7], raw[ENTRY];
 static const uint8_t letters[25] = "abcdefghijklmnopqrstuvwx";
 static uint16_t value16;
 static uint32_t value32, crc;
@@ -45,7 +45,7 @@ static uint64_t found15[15];
 
 #define SLOT_A V0, V1, 0, 0, 0, log2_slot, 2, 1
 #define LIMITS 12, 16384, 32768
-#define NAME ((const uint8_t(*)[24])letters)
+#define NAME letters
 
 /* A function that makes one call and nothing else. */
 #define CALL(function, ...)                            \
@@ -54,6 +54,7 @@ static uint64_t found15[15];
         result = function(__VA_ARGS__);                \
     }
 
+CALL(sio_version, )
 CALL(sio_crc32c, a, size)
 CALL(sio_crc32c_append, 1, a, size)
 CALL(sio_crc32c_gap, a, 8, 4, a + 12, size - 12)
@@ -76,7 +77,7 @@ CALL(sio_validate, a, size, SLOT_A, &found9)
 CALL(sio_header_facts, a, size, SLOT_A, &found4)
 CALL(sio_frame_slot, a, size, SLOT_A, &part)
 CALL(sio_decide, 12, 2, 22, 11, 12, 1, 11, 0, &report5)
-CALL(sio_winner_payload, a, size, b, size, V0, V1, 0, 0, size, log2_slot, 2, 1, &found9, &other9, &report6, &start, &count)
+CALL(sio_winner_payload, a, size, b, size, V0, V1, 0, 0, size, log2_slot, 2, 1, &found9, &other9, &report7, &start, &count)
 CALL(sio_judge, frames[0][0], pairs * sizeof frames[0], 0, verdicts[0], pairs * sizeof verdicts[0], &found5)
 CALL(sio_next_number, frames[0][0], pairs * sizeof frames[0], &value64)
 CALL(sio_heal_number, frames[0][0], pairs * sizeof frames[0], &value64)
@@ -111,6 +112,7 @@ static const struct row {
     void (*call)(void);
     uint64_t expected;
 } rows[] = {
+    ROW(sio_version, SIO_VERSION),
     ROW(sio_crc32c, ANY),
     ROW(sio_crc32c_append, ANY),
     ROW(sio_crc32c_gap, ANY),
@@ -170,7 +172,7 @@ static uint32_t prepare_pair(void) {
 /* A page with as many entries as fit. */
 static uint32_t prepare_page(void) {
     uint32_t refusal = 0;
-    entries_count = (uint16_t)sio_entries_per_page(log2_table);
+    entries_count = sio_entries_per_page(log2_table);
     for (uint32_t i = 0; i < entries_count; i++) {
         refusal |= sio_write_entry(entries + i * (size_t)ENTRY, ENTRY, i, 1, 1, 0, 0, NAME, 0, 1, 16384, 20480, 512, 4096,
                                    16384, 28672, 1, &count);

@@ -132,7 +132,7 @@ fn our_payload(input: &mut Input) -> u64 {
     let answered = Answered {
         values_a: &Cell::new([0; 9]),
         values_b: &Cell::new([0; 9]),
-        report: &Cell::new([0; 6]),
+        report: &Cell::new([0; 7]),
         start: &Cell::new(0),
         payload_len: &Cell::new(0),
     };

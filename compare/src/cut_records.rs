@@ -80,8 +80,8 @@ pub fn done(function: &str, refusal: u32) {
 
 fn new_volume(rng: &mut Rng) -> Volume {
     let volume = random_volume(rng);
-    let entries = ffi_volume::entries_per_page(volume.base.log2_table_slot_size);
-    Volume { entries_per_page: entries as u16, ..volume }
+    let entries_per_page = ffi_volume::entries_per_page(volume.base.log2_table_slot_size);
+    Volume { entries_per_page, ..volume }
 }
 
 /// The same volume, now and then with another owner or creation time.

@@ -45,7 +45,7 @@ pub struct Answers {
 #[derive(PartialEq)]
 pub struct ReadBack {
     winner: u32,
-    report: [u8; 6],
+    report: [u8; 7],
     record: Vec<u8>,
     decoded: u32,
 }
@@ -222,10 +222,11 @@ impl Answers {
 }
 
 impl ReadBack {
-    /// The record of a Confirmed winner; no gap and no break.
+    /// The record of a Confirmed winner; no gap and no break, and the other slot is written next.
     pub fn promised(winner: usize, [a, b]: [u8; 2], record: &[u8]) -> Self {
         let winner = winner as u8 + 1;
-        Self { winner: winner.into(), report: [a, b, 0, winner, 0, 0], record: record.to_vec(), decoded: 0 }
+        let other = 3 - winner;
+        Self { winner: winner.into(), report: [a, b, 0, winner, 0, 0, other], record: record.to_vec(), decoded: 0 }
     }
 
     /// That of a pair which is not written.
@@ -238,7 +239,7 @@ impl ReadBack {
         let answered = Answered {
             values_a: &Cell::new([0; 9]),
             values_b: &Cell::new([0; 9]),
-            report: &Cell::new([0xee; 6]),
+            report: &Cell::new([0xee; 7]),
             start: &Cell::new(usize::MAX),
             payload_len: &Cell::new(0),
         };

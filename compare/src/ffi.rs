@@ -5,7 +5,12 @@
 
 use std::cell::Cell;
 
+/// The version of the interface that is called here.
+pub const VERSION: u32 = 1;
+
 extern "C" {
+    fn sio_version() -> u32;
+
     fn sio_crc32c(bytes: *const u8, len: usize) -> u32;
     fn sio_crc32c_append(crc: u32, bytes: *const u8, len: usize) -> u32;
     fn sio_crc32c_gap(head: *const u8, head_len: usize, zeros: usize, tail: *const u8, tail_len: usize) -> u32;
@@ -145,6 +150,10 @@ pub fn address(bytes: &Bytes) -> *mut u8 {
 
 // SAFETY, for every call below: each pointer comes with the length of its own slice or points to a cell of its type,
 // and cells may be written while they are shared.
+
+pub fn version() -> u32 {
+    unsafe { sio_version() }
+}
 
 pub fn crc32c(bytes: &Bytes) -> u32 {
     unsafe { sio_crc32c(address(bytes), bytes.len()) }

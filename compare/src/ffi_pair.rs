@@ -19,7 +19,7 @@ extern "C" {
         numbered: u32,
         values_a: *mut [u64; 9],
         values_b: *mut [u64; 9],
-        report: *mut [u8; 6],
+        report: *mut [u8; 7],
         start: *mut usize,
         payload_len: *mut usize,
     ) -> u32;
@@ -56,7 +56,7 @@ impl PairIdentity {
 pub struct Answered<'a> {
     pub values_a: &'a Cell<[u64; 9]>,
     pub values_b: &'a Cell<[u64; 9]>,
-    pub report: &'a Cell<[u8; 6]>,
+    pub report: &'a Cell<[u8; 7]>,
     pub start: &'a Cell<usize>,
     pub payload_len: &'a Cell<usize>,
 }

@@ -5,7 +5,7 @@ use std::cell::Cell;
 
 extern "C" {
     fn sio_region_name(name: *const u8, name_len: usize, stored: *mut [u8; 24], stored_len: *mut u8) -> u32;
-    fn sio_region_name_padded(raw: *const [u8; 24], stored: *mut [u8; 24], stored_len: *mut u8) -> u32;
+    fn sio_region_name_padded(raw: *const u8, stored: *mut [u8; 24], stored_len: *mut u8) -> u32;
 
     fn sio_volume_decode(bytes: *const u8, len: usize, found: *mut [u64; 11]) -> u32;
     fn sio_volume_encode(
@@ -38,7 +38,7 @@ extern "C" {
         written: *mut usize,
     ) -> u32;
 
-    fn sio_entries_per_page(log2_table: u8) -> u32;
+    fn sio_entries_per_page(log2_table: u8) -> u16;
     fn sio_table_end(log2_block_size: u8, log2_table_slot_size: u8, table_pages: u32, end: *mut u64) -> u32;
     fn sio_check_file_len(log2_block_size: u8, log2_table_slot_size: u8, table_pages: u32, file_len: u64) -> u32;
 }
@@ -80,7 +80,7 @@ pub fn region_name(name: &Bytes, stored: &Cell<[u8; 24]>, stored_len: &Cell<u8>)
 }
 
 pub fn region_name_padded(raw: &Cell<[u8; 24]>, stored: &Cell<[u8; 24]>, stored_len: &Cell<u8>) -> u32 {
-    unsafe { sio_region_name_padded(raw.as_ptr(), stored.as_ptr(), stored_len.as_ptr()) }
+    unsafe { sio_region_name_padded(raw.as_ptr().cast(), stored.as_ptr(), stored_len.as_ptr()) }
 }
 
 pub fn volume_decode(bytes: &Bytes, found: &Cell<[u64; 11]>) -> u32 {
@@ -129,7 +129,7 @@ pub fn volume_base_encode(bytes: &Bytes, base: &Base, written: &Cell<usize>) -> 
     }
 }
 
-pub fn entries_per_page(log2_table: u8) -> u32 {
+pub fn entries_per_page(log2_table: u8) -> u16 {
     unsafe { sio_entries_per_page(log2_table) }
 }
 

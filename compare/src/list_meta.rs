@@ -195,7 +195,7 @@ fn packed_volume(volume: &Volume) -> Vec<u8> {
 
 fn sizes(list: &mut List) {
     for log2 in [0, 11, 12, 13, 14, 15, 16, 17, 64 + 12, 255] {
-        list.line("epp", &[log2], &u32::from(reference::entries_per_page(log2)).packed());
+        list.line("epp", &[log2], &reference::entries_per_page(log2).packed());
     }
     for (log2_block_size, log2_table_slot_size, table_pages) in SIZES {
         let at = Geometry { log2_block_size, log2_table_slot_size, table_pages };

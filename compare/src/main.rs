@@ -148,6 +148,9 @@ const BAD_SEED: &str = "SEED is a number, decimal or hex with 0x";
 fn main() -> ExitCode {
     let arguments: Vec<String> = std::env::args().skip(1).collect();
     let words: Vec<&str> = arguments.iter().map(String::as_str).collect();
+    if ffi::version() != ffi::VERSION {
+        return fail("the library has another version of the interface");
+    }
     match words[..] {
         ["quick"] => compare(QUICK_SEED, QUICK_ROUNDS),
         ["long"] => compare(clock_seed(), LONG_ROUNDS),

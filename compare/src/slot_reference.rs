@@ -159,10 +159,13 @@ pub fn frame_slot(slot: &[u8], at: &Identity, numbered: u32) -> (u32, [u8; 26]) 
 
 /// The report on a pair; `None` where a status is above 12, for which the reference has no value.
 pub fn decide(a: &Side, b: &Side) -> Option<[u8; 5]> {
-    let report = pair::decide(side_status(a)?, side_status(b)?);
-    let (winner, index) = winner_numbers(&report);
+    Some(report_numbers(&pair::decide(side_status(a)?, side_status(b)?)))
+}
+
+fn report_numbers(report: &PairReport) -> [u8; 5] {
+    let (winner, index) = winner_numbers(report);
     let next = report.next_write().map_or(0, index_number);
-    Some([winner, index, report.generation_gap.into(), report.chain_break.into(), next])
+    [winner, index, report.generation_gap.into(), report.chain_break.into(), next]
 }
 
 /// The payload of a pair's winner: winner, place and length in its slot, and the statuses and decision that led to it.
@@ -172,7 +175,7 @@ pub struct WinnerPayload {
     pub payload_len: usize,
     pub values_a: [u64; 9],
     pub values_b: [u64; 9],
-    pub report: [u8; 6],
+    pub report: [u8; 7],
 }
 
 pub fn winner_payload(a: &[u8], b: &[u8], at: &PairIdentity) -> WinnerPayload {
@@ -187,21 +190,14 @@ pub fn winner_payload(a: &[u8], b: &[u8], at: &PairIdentity) -> WinnerPayload {
             (index_number(index), payload.as_ptr() as usize - slot.as_ptr() as usize, payload.len())
         }
     };
-    let (kind, index) = winner_numbers(&report);
+    let [kind, index, gap, broken, next] = report_numbers(&report);
     WinnerPayload {
         winner,
         start,
         payload_len,
         values_a: status_numbers(a, &a_status),
         values_b: status_numbers(b, &b_status),
-        report: [
-            code(&a_status) as u8,
-            code(&b_status) as u8,
-            kind,
-            index,
-            report.generation_gap.into(),
-            report.chain_break.into(),
-        ],
+        report: [code(&a_status) as u8, code(&b_status) as u8, kind, index, gap, broken, next],
     }
 }
 

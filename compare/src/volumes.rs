@@ -218,7 +218,7 @@ fn base_fields(base: &Base) -> Fields {
 
 pub fn compare_entries_per_page(run: &mut Run, log2_table: u8) -> Checked {
     let expected = reference::entries_per_page(log2_table).into();
-    let found = ffi::entries_per_page(log2_table);
+    let found = ffi::entries_per_page(log2_table).into();
     let call = Call { function: ENTRIES_PER_PAGE, answer: Answer::Done, expected, found };
     call.compare(run, &[], || vec![("log2_table", number(log2_table))])
 }

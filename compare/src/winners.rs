@@ -199,7 +199,7 @@ fn compare(run: &mut Run, slots: &[Sample; 2]) -> Checked {
     let payload_len = LentCell::random(&mut run.rng);
     let winner = slot_reference::winner_payload(&slots[0].slot, &slots[1].slot, &at);
     count_parts(run, slots, &winner);
-    let [_, _, kind, index, gap, broken] = winner.report;
+    let [_, _, kind, index, gap, broken, _] = winner.report;
     let answer = decision([kind, index, gap, broken]);
     let answered = Answered {
         values_a: values_a.cell(),

@@ -16,6 +16,7 @@ ghost use Rattle.pair.specs.Pair.{refused, explains_survivor, survivor, decide, 
 ghost use Rattle.pair.specs.Numbers.{report_numbers, info_numbers, winner_number, winner_slot};
 ghost use Rattle.pair.specs.Table.{BesideValid, NoneValid, TwoValid, WinnerNumbers};
 
+use slot::numbers::choice_number;
 use slot::slot::{SlotIndex, SlotInfo, SlotStatus};
 
 // The chosen version of a pair, if any.
@@ -74,9 +75,9 @@ pub struct PairReport {
 }
 
 impl PairReport {
-    // Both codes, the winner's number and slot, gap and chain break.
+    // Both codes, the winner's number and slot, gap, chain break, and the slot of the next write.
     #[tactic(auto, unfolding(crate::specs::Numbers::report_numbers))]
-    pub fn numbers(self) -> [u8; 6]
+    pub fn numbers(self) -> [u8; 7]
         ensures { result ≡ report_numbers self }
     {
         [
@@ -86,6 +87,7 @@ impl PairReport {
             self.winner.slot(),
             u8::from(self.generation_gap),
             u8::from(self.chain_break),
+            choice_number(self.next_write()),
         ]
     }
 

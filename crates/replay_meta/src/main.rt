@@ -11,7 +11,7 @@
 // | ven | VOLUME, BUFFER | refusal, where not refused the bytes written (8) and the buffer |
 // | bde | bytes | refusal, where not refused the seven numbers found (8 each) |
 // | ben | BASE, BUFFER | as ven |
-// | epp | log2 of the table slot's size (1) | entries (4) |
+// | epp | log2 of the table slot's size (1) | entries (2) |
 // | end | SIZES | refusal, where not refused the table's end (8) |
 // | fit | SIZES, length of the file (8) | refusal |
 // | pde | page index (4), most entries (2), bytes | refusal, where not refused the five numbers found (8 each) |

@@ -90,7 +90,7 @@ abbrev pub valid : ℕ → ℕ → ℕ → Option SlotStatus
 valid generation own prev = Some (SlotStatus.Valid (valid_of generation own prev))
 
 -- Of a pair: the winner's standing and slot, gap, chain break, next write; 10 where a number is no status, and the report is kept; with
--- its payload both values, the six numbers of the report, and start and length.
+-- its payload both values, the seven numbers of the report, and start and length.
 abbrev pub PairPlaces : Type 0
 PairPlaces =
     (report_bytes decided ≡ 1 ∷ 2 ∷ 1 ∷ 0 ∷ 1 ∷ [])
@@ -98,7 +98,7 @@ PairPlaces =
     × (decide_answer [] (valid 1 8 0) (valid 2 7 9) ≡ (0, 0 ∷ 2 ∷ 0 ∷ 1 ∷ 1 ∷ []))
     × (decide_answer (9 ∷ []) None (Some SlotStatus.Blank) ≡ (10, 9 ∷ []))
     × (decide_answer (9 ∷ []) (Some SlotStatus.Blank) None ≡ (10, 9 ∷ []))
-    × (winner_answer 512 512 decided ≡ (2, 0 ∷ 0 ∷ 0 ∷ 0 ∷ 0 ∷ 0 ∷ 0 ∷ 0 ∷ 0 ∷ [], 1 ∷ 2 ∷ 3 ∷ 4 ∷ 5 ∷ 6 ∷ 7 ∷ 8 ∷ 9 ∷ [], 2 ∷ 12 ∷ 1 ∷ 2 ∷ 1 ∷ 0 ∷ [], 8, 9))
+    × (winner_answer 512 512 decided ≡ (2, 0 ∷ 0 ∷ 0 ∷ 0 ∷ 0 ∷ 0 ∷ 0 ∷ 0 ∷ 0 ∷ [], 1 ∷ 2 ∷ 3 ∷ 4 ∷ 5 ∷ 6 ∷ 7 ∷ 8 ∷ 9 ∷ [], 2 ∷ 12 ∷ 1 ∷ 2 ∷ 1 ∷ 0 ∷ 1 ∷ [], 8, 9))
 
 -- The slot to heal, its pair, writable, clean, refused.
 abbrev pub JudgementPlaces : Type 0

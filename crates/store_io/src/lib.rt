@@ -14,5 +14,6 @@ pub mod pairs;
 pub mod planning;
 pub mod slots;
 pub mod tables;
+pub mod version;
 pub mod volumes;
 pub mod winners;

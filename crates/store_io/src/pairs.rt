@@ -7,7 +7,6 @@ ghost use Rattle.store_io.specs.Pairs.{report_bytes, decide_answer};
 use crate::arguments::valid_of;
 use judge::verdict::JudgeError;
 use pair::pair::{PairReport, decide};
-use slot::numbers::choice_number;
 use slot::slot::SlotStatus;
 
 // The current version of a pair.
@@ -38,15 +37,10 @@ pub extern "C" fn sio_decide(
 }
 
 // The winner's standing and slot, gap, chain break, and the slot of the next write.
-#[tactic(auto, unfolding(crate::specs::Pairs::report_bytes))]
+#[tactic(auto, unfolding(crate::specs::Pairs::report_bytes, pair::specs::Numbers::report_numbers))]
 pub fn report_bytes(report: &PairReport) -> [u8; 5]
     ensures { result ≡ report_bytes report.now }
 {
-    [
-        report.winner.number(),
-        report.winner.slot(),
-        u8::from(report.generation_gap),
-        u8::from(report.chain_break),
-        choice_number(report.next_write()),
-    ]
+    let [_, _, standing, winner, gap, broken, next] = report.numbers();
+    [standing, winner, gap, broken, next]
 }

@@ -106,10 +106,10 @@ pub extern "C" fn sio_volume_base_encode(
 
 // Entries of a page.
 #[unsafe(no_mangle)]
-pub extern "C" fn sio_entries_per_page(log2_table: u8) -> u32
+pub extern "C" fn sio_entries_per_page(log2_table: u8) -> u16
     ensures { result ≡ entries_per_page log2_table }
 {
-    u32::from(entries_per_page(log2_table))
+    entries_per_page(log2_table)
 }
 
 // A record with a table's geometry, zeros elsewhere.

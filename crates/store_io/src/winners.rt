@@ -23,7 +23,7 @@ pub extern "C" fn sio_winner_payload<'a>(
     numbered: u32,
     values_a: &mut [u64; 9],
     values_b: &mut [u64; 9],
-    report: &mut [u8; 6],
+    report: &mut [u8; 7],
     start: &mut usize,
     payload_len: &mut usize,
 ) -> u32
