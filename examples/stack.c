@@ -200,10 +200,10 @@ static uint32_t prepare(uint8_t slot, uint8_t table, size_t rows_of_frames) {
     return refusal | sio_volume_encode(record, sizeof record, 12, table, 0, 1, 8192, 3, 0, 1, entries_count, 0, 0, &count);
 }
 
-/* Makes a call on the painted stack and gives the bytes it took. */
-static size_t taken(void (*call)(void), uint8_t paint) {
+/* Makes a call on a stack filled with one byte and gives the bytes it took. */
+static size_t taken(void (*call)(void), uint8_t filling) {
     size_t lowest = 0;
-    memset(stack, paint, sizeof stack);
+    memset(stack, filling, sizeof stack);
     position = 0;
     getcontext(&callee);
     callee.uc_stack.ss_sp = stack;
@@ -211,7 +211,7 @@ static size_t taken(void (*call)(void), uint8_t paint) {
     callee.uc_link = &caller;
     makecontext(&callee, call, 0);
     swapcontext(&caller, &callee);
-    while (stack[lowest] == paint) {
+    while (stack[lowest] == filling) {
         lowest++;
     }
     return frame - (uintptr_t)(stack + lowest);
