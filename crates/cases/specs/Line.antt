@@ -1,4 +1,4 @@
--- The fields of a line: the name up to the first space, the input up to the second, and behind it what is expected.
+-- The fields of a line: the name up to the first space, the input up to the second, and after it what is expected.
 use Rattle.std.specs.Prelude.{if◌then◌else◌, ◌==◌, List, [], ◌∷◌, ℕ, Option, Some, None}
 use Rattle.std.specs.List.{list_all}
 use Rattle.std.specs.Option.{option_map, option_and_then}

@@ -50,7 +50,7 @@ rest =
       prev_header_crc32c = 0xffff_ffff;
     }
 
--- The slots of an object lie one behind the other, and those of the next object behind them.
+-- The slots of an object lie one after the other, and those of the next object after them.
 abbrev pub fields : (object : ℕ) → SlotIndex → (generation prev number : ℕ) → SlotFields
 fields object index generation prev number =
     record {
@@ -84,7 +84,7 @@ read_with f =
 abbrev pub written_slot : SlotFields → List ℕ → Slot
 written_slot f payload = record { bytes = (encode f payload (replicate 512 0)).0; expect = read_with f; rest = rest }
 
--- A Blank slot: behind its first 128 bytes it holds anything.
+-- A Blank slot: after its first 128 bytes it holds anything.
 abbrev pub blank_slot : (object : ℕ) → SlotIndex → Slot
 blank_slot object index =
     record { bytes = replicate 128 0 ++ replicate 384 9; expect = read_with (fields object index 0 0 0); rest = rest }

@@ -76,7 +76,7 @@ written_back s e small is = go (ltb (length s) 96) refl (rw (entry_layout s) at 
 -- ---- read as it was written
 
 module _ (e : RawEntry) (f : Fits e) (rest : List ℕ) where
-  -- The bytes up to the name's end, and those behind.
+  -- The bytes up to the name's end, and those after.
   abbrev front : List ℕ
   front = to_le_bytes w32 e.seq ++ to_le_bytes w8 e.kind ++ to_le_bytes w8 e.state ++ to_le_bytes w8 e.flags ++ to_le_bytes w8 e.compat_flags ++ e.name
 

@@ -1,7 +1,7 @@
 -- Laws of region names: what an accepted name is, and that storing a name and reading it back are inverse to each other.
 use Rattle.std.proofs.Common.{◌≡◌, refl, sym, ap, ◌∙◌, subst, Bool, true, false, cond, not, ◌&&◌, List, [], ◌∷◌, ◌++◌, ℕ, zero, suc, ◌+◌, ◌-◌, ◌≤◌, ◌<◌, ◌==◌, arith, eq-eqb, ne_eqb, le-ltb, le-leb, eqb-true, length, take, drop, replicate, Option, Some, None, Ok, length-drop, take-append-drop, length-take-le, take_at, drop_at}
 use Rattle.std.specs.Prelude.{if◌then◌else◌, ◌||◌}
-use Rattle.std.specs.Option.{MatchOption, ok_or}
+use Rattle.std.specs.Option.{MatchOption, ok_or, unwrap_or}
 use Rattle.std.specs.List.{AllWithin, HoldsAt, list_all, list_any}
 use Rattle.std.proofs.lemmas.List.Sums.{position_or_len_is}
 use Rattle.meta.specs.Utf8.{utf8}
@@ -39,15 +39,9 @@ First r s =
     MatchOption r (AllWithin (λ (b : ℕ). (b == 0) ≡ false) s 0 (length s))
     (λ i. (i < length s) × HoldsAt (λ (b : ℕ). (b == 0) ≡ true) s i × AllWithin (λ (b : ℕ). (b == 0) ≡ false) s 0 i)
 
-pub first_some : (r : Option ℕ) (s : List ℕ) (i : ℕ) → r ≡ Some i → First r s → i ≡ zero_at s
-first_some r s i is first =
-    let at : First (Some i) s = subst (λ (q : Option ℕ). First q s) is first in
-    sym (position_or_len_is (λ (b : ℕ). b == 0) s i 0 (omega (arith, at.0)) (λ k h. at.2 k 0 (omega arith) h) (λ h. at.1 0))
-
-pub first_none : (r : Option ℕ) (s : List ℕ) → r ≡ None → First r s → length s ≡ zero_at s
-first_none r s is first =
-    let all : First None s = subst (λ (q : Option ℕ). First q s) is first in
-    sym (position_or_len_is (λ (b : ℕ). b == 0) s (length s) 0 (omega arith) (λ k h. all k 0 (omega arith) h) (λ h. absurd (omega arith)))
+pub first_or_end : (r : Option ℕ) (s : List ℕ) → First r s → unwrap_or r (length s) ≡ zero_at s
+first_or_end (Some i) s at = sym (position_or_len_is (λ (b : ℕ). b == 0) s i 0 (omega (arith, at.0)) (λ k h. at.2 k 0 (omega arith) h) (λ h. at.1 0))
+first_or_end None s all = sym (position_or_len_is (λ (b : ℕ). b == 0) s (length s) 0 (omega arith) (λ k h. all k 0 (omega arith) h) (λ h. absurd (omega arith)))
 
 zero_within : (s : List ℕ) → zero_at s ≤ length s
 zero_within [] = omega arith

@@ -70,7 +70,7 @@ pub header_fits : (h : PageHeader) (out : List ℕ) → 24 ≤ length out
 unfolding header_bytes
 header_fits h out fits = row_front (header_row h) out 24 (length_header h) fits
 
--- The header in front of a buffer, and the entries behind it.
+-- The header in front of a buffer, and the entries after it.
 pub encoded : (h : PageHeader) (es : List (List ℕ)) (out front written : List ℕ)
     → length es ≤ 65535 → length es ≡ h.count → 24 + length es * 96 ≤ length out
     → front ≡ header_bytes h ++ drop 24 out → written ≡ flat_map stored_part es
@@ -191,7 +191,6 @@ entries_checked next (e ∷ es) (Issued.more below alone rest) (Zeros.more first
 record PageDecoded (s : List ℕ) (index most : ℕ) (h : PageHeader) : Type 0 where
   is : h ≡ header_fields s
   zeros : list_all (λ b. b == 0) (take 14 (drop 10 s)) ≡ true
-  index_is : h.page_index ≡ index
   within : h.count ≤ most
   given_out : h.count ≤ h.next_seq
   size : length s ≡ 24 + h.count * 96
@@ -217,7 +216,6 @@ page_decoded s index most h is = go (ltb (length s) 24) (rw (header_layout s) at
         (record {
           is = refl;
           zeros = not-false _ zeros.0;
-          index_is = eqb-true _ _ (not-false _ same.0);
           within = grind arith;
           given_out = grind arith;
           size = eqb-true _ _ (not-false _ size.0);

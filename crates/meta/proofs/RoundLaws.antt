@@ -78,7 +78,7 @@ infixr 20 ◌and◌
 pub ◌and◌ : {x y : List ℕ} {xs ys : List (List ℕ)} → x ≡ y → xs ≡ ys → x ∷ xs ≡ y ∷ ys
 first and others = ap₂ (λ (z : List ℕ) (zs : List (List ℕ)). z ∷ zs) first others
 
--- A number behind n bytes.
+-- A number after n bytes.
 pub le_behind : (w : Width) (n i : ℕ) (front s : List ℕ) → length front ≡ n → le w (front ++ s) (n + i) ≡ le w s i
 unfolding le
 le_behind w n i front s same =

@@ -12,7 +12,7 @@ use Rattle.meta.specs.Scalar.{Scalar, encode, encode_all, Scalars, Encoded, Gram
 use Rattle.meta.proofs.Rows.{begins_fits, fits_begins, fits_behind, some_found, some_at}
 use Rattle.meta.proofs.Encoding.{row, Encodes, encode_some, rows_valued, value_placed}
 
--- A row's bytes in front, and behind them at most n characters.
+-- A row's bytes in front, and after them at most n characters.
 abbrev front : ℕ → List ℕ → List Range → Bool
 front n s ranges = begins ranges s && utf8_octets n (drop (length ranges) s)
 

@@ -23,7 +23,7 @@ use Rattle.meta.proofs.LayoutLaws.{base_layout, tail_layout}
 use Rattle.meta.proofs.RoundLaws.{written_8, written_16, written_32, pieces, joined, ◌and◌, passed, after_ok}
 use Rattle.meta.proofs.BaseLaws.{Passed, base_passed, base_checked, base_written, acceptable_base, acceptable_fits, base_read}
 
--- A row of writes behind another one.
+-- A row of writes after another one.
 pub row_join : (row more : List (List ℕ)) (s : List ℕ) (w : Writer)
     → write_row (row ++ more) s w ≡ on (write_row row s w).0 (write_row row s w).1 (write_row more)
 row_join [] more s w = refl
@@ -49,7 +49,7 @@ volume_fits v out fits = row_front (volume_row v) out 64 (length_volume v) fits
 
 -- ---- what is decoded
 
--- The rules of what stands behind a base.
+-- The rules of what stands after a base.
 pub record TailPassed (base : VolumeMeta) (t : Tail) : Type 0 where
   pub reserved0 : t.reserved0 ≡ 0
   pub reserved1 : t.reserved1 ≡ 0
@@ -112,7 +112,7 @@ mark_low : (b : Bool) → nat_lt 1 (from_bool b) ≡ false
 mark_low true = refl
 mark_low false = refl
 
--- A record is its base and what stands behind it.
+-- A record is its base and what stands after it.
 parts : (v : VolumeMeta2) → volume_bytes v ≡ base_bytes v.base ++ concat (tail_row v)
 unfolding volume_bytes base_bytes
 parts v = concat-append (base_row v.base) (tail_row v)
@@ -155,7 +155,7 @@ abbrev stored_tail : VolumeMeta2 → Tail
 stored_tail v =
     record { table_pages = v.table_pages; entries_per_page = v.entries_per_page; clean_close = from_bool v.clean_close; reserved0 = 0; flags = v.flags; reserved1 = 0 }
 
--- What stands behind the base is read as it was written.
+-- What stands after the base is read as it was written.
 tail_read : (v : VolumeMeta2) → Acceptable v → tail_fields (volume_bytes v) ≡ stored_tail v
 unfolding le volume_bytes
 tail_read v a =

@@ -85,7 +85,7 @@ entry2 e kind name =
       footprint_seq = e.footprint_seq;
     }
 
--- The checks behind those of flags and limits, in their order.
+-- The checks after those of flags and limits, in their order.
 abbrev pub check_fields : RawEntry → EntryLimits → Result Entry2 MetaError
 check_fields e l = do
   kind ← kind_at e.kind

@@ -1,4 +1,4 @@
--- A region's name: 1 to 24 bytes of UTF-8, no NUL; stored in 24 bytes, zeros behind it (docs/FORMAT.md, "Names").
+-- A region's name: 1 to 24 bytes of UTF-8, no NUL; stored in 24 bytes, zeros after it (docs/FORMAT.md, "Names").
 use Rattle.std.specs.Prelude.{◌≡◌, ◌≤◌, Bool, true, false, not, ◌&&◌, ◌==◌, nat_le, nat_lt, if◌then◌else◌, List, [], ◌++◌, ℕ, ◌-◌, length, take, drop, replicate, Option, Some, None, Result, Ok}
 use Rattle.std.specs.List.{list_all, list_any, position_or_len}
 use Rattle.std.specs.Option.{ok_or}
@@ -23,7 +23,7 @@ stored_name s = record { bytes = s ++ replicate (24 - length s) 0; len = length 
 unfoldable pub name_of : List ℕ → Option RegionName
 name_of s = if is_name s then Some (stored_name s) else None
 
--- The same of 24 stored bytes: the name ends at the first zero, and all behind it is zero.
+-- The same of 24 stored bytes: the name ends at the first zero, and all after it is zero.
 unfoldable pub name_in : List ℕ → Option RegionName
 name_in raw = if list_all (λ b. b == 0) (drop (zero_at raw) raw) then name_of (take (zero_at raw) raw) else None
 

@@ -15,7 +15,7 @@ use Rattle.meta.specs.Error.{refused, after}
 
 -- ---- reading
 
--- The header, then the fourteen bytes behind it.
+-- The header, then the fourteen bytes after it.
 unfoldable pub header_at : List ℕ → Option (PageHeader × List ℕ)
 header_at s = do
   index ← number w32 s (record { pos = 0 })
@@ -55,7 +55,7 @@ check_entries next (e ∷ es) = after (check_own next e) (if shares (seq e) es t
 abbrev pub parts : List ℕ → List (List ℕ)
 parts s = first_chunks 96 (length s / 96) s
 
--- The entries stand behind the header.
+-- The entries stand after the header.
 unfoldable pub entries : List ℕ → List (List ℕ)
 entries s = parts (drop 24 s)
 
@@ -75,7 +75,7 @@ decoded_page s index most None = Err MetaError.Length
 unfoldable pub decode_page : List ℕ → ℕ → ℕ → Result PageHeader MetaError
 decode_page s index most = decoded_page s index most (header_at s)
 
--- A page has its header, and as its entries the part of the bytes behind it.
+-- A page has its header, and as its entries the part of the bytes after it.
 abbrev pub Gives : Bor (List ℕ) → Result Page MetaError → Result PageHeader MetaError → Type 0
 Gives x (Ok p) answer = (answer ≡ Ok p.header) × Part x 24 (p.header.count * 96) p.entries
 Gives x (Err e) answer = answer ≡ Err e

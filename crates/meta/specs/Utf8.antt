@@ -30,7 +30,7 @@ begins [] s = true
 begins (range ∷ row) [] = false
 begins (range ∷ row) (b ∷ s) = nat_le range.0 b && nat_le b range.1 && begins row s
 
--- A run of at most n characters: no bytes, or an alternative's in front and behind them a run of one character less.
+-- A run of at most n characters: no bytes, or an alternative's in front and after them a run of one character less.
 unfoldable pub utf8_octets : ℕ → List ℕ → Bool
 utf8_octets zero s = length s == 0
 utf8_octets (suc n) s = length s == 0 || list_any (λ row. begins row s && utf8_octets n (drop (length row) s)) utf8_char

@@ -1,5 +1,5 @@
 -- The volume record of format 2, 64 bytes (docs/FORMAT.md, "The volume record", and "Refusals" of its decoding, the table's end and
--- the file's length): what stands behind its base, the checks in their order, and the bytes as they are written.
+-- the file's length): what stands after its base, the checks in their order, and the bytes as they are written.
 use Rattle.std.specs.Prelude.{◌≡◌, not, ◌||◌, ℕ, ◌+◌, ◌*◌, ◌^◌, ◌≤◌, ◌<◌, ◌==◌, nat_lt, nat_le, if◌then◌else◌, List, [], ◌∷◌, ◌++◌, length, drop, Option, Some, None, Result, Ok, Err}
 use Rattle.std.specs.Int.{w8, w16, w32, to_le_bytes, from_bool}
 use Rattle.std.specs.List.{concat}
@@ -14,7 +14,7 @@ use Rattle.meta.specs.Error.{refused, after}
 use Rattle.meta.specs.Block.{block_size, entries_per_page}
 use Rattle.meta.specs.Base.{base_at, check_base, base_row, AcceptableBase}
 
--- The fields behind the base, from 48 on.
+-- The fields after the base, from 48 on.
 unfoldable pub tail_at : List ℕ → Option Tail
 tail_at s = do
   pages ← number w32 s (record { pos = 48 })
@@ -83,7 +83,7 @@ decoded_volume None tail = Err MetaError.Length
 unfoldable pub decode_volume : List ℕ → Result VolumeMeta2 MetaError
 decode_volume s = if not (length s == 64) then Err MetaError.Length else decoded_volume (base_at s) (tail_at s)
 
--- What is written behind the base, zeros at 55 and 60.
+-- What is written after the base, zeros at 55 and 60.
 abbrev pub tail_row : VolumeMeta2 → List (List ℕ)
 tail_row v =
     to_le_bytes w32 v.table_pages

@@ -29,29 +29,29 @@ use std::{fmt, str};
 /// A field whose value is refused.
 #[derive(Clone, Copy, PartialEq, Eq, Debug)]
 pub enum Field {
-    Features,
-    Flags,
-    Reserved,
-    Log2BlockSize,
-    Log2TableSlotSize,
-    TableOffset,
-    TablePages,
-    EntriesPerPage,
-    CleanClose,
-    PageIndex,
-    Count,
-    Seq,
-    Log2Block,
-    Kind,
-    State,
-    Name,
-    DataSize,
-    Span,
-    Capacity,
-    Header,
-    FootprintSeq,
-    Slot,
-    ExtentCount,
+    Features = 20,
+    Flags = 21,
+    Reserved = 22,
+    Log2BlockSize = 23,
+    Log2TableSlotSize = 24,
+    TableOffset = 25,
+    TablePages = 26,
+    EntriesPerPage = 27,
+    CleanClose = 28,
+    PageIndex = 29,
+    Count = 30,
+    Seq = 31,
+    Log2Block = 32,
+    Kind = 33,
+    State = 34,
+    Name = 35,
+    DataSize = 36,
+    Span = 37,
+    Capacity = 38,
+    Header = 39,
+    FootprintSeq = 40,
+    Slot = 41,
+    ExtentCount = 42,
 }
 
 /// Why a payload failed to decode or encode.
@@ -72,31 +72,7 @@ impl Field {
     pub fn number(self) -> u8
         ensures { result ≡ field_number self }
     {
-        match self {
-            Self::Features => 20,
-            Self::Flags => 21,
-            Self::Reserved => 22,
-            Self::Log2BlockSize => 23,
-            Self::Log2TableSlotSize => 24,
-            Self::TableOffset => 25,
-            Self::TablePages => 26,
-            Self::EntriesPerPage => 27,
-            Self::CleanClose => 28,
-            Self::PageIndex => 29,
-            Self::Count => 30,
-            Self::Seq => 31,
-            Self::Log2Block => 32,
-            Self::Kind => 33,
-            Self::State => 34,
-            Self::Name => 35,
-            Self::DataSize => 36,
-            Self::Span => 37,
-            Self::Capacity => 38,
-            Self::Header => 39,
-            Self::FootprintSeq => 40,
-            Self::Slot => 41,
-            Self::ExtentCount => 42,
-        }
+        self as u8
     }
 }
 
@@ -106,6 +82,7 @@ impl MetaError {
         ensures { result ≡ number self }
     {
         match self {
+            // A row a case: a case that holds a field is no number by a cast.
             Self::Length => 11,
             Self::Duplicate => 12,
             Self::Unaligned => 13,
@@ -172,11 +149,11 @@ impl Error for MetaError {}
 #[derive(Clone, Copy)]
 pub enum RegionKind {
     /// Positions are allocated from a tail; blocks are never rewritten.
-    Append,
+    Append = 1,
     /// Positions chosen by the caller; overwritten in place.
-    Page,
+    Page = 2,
     /// A small object stored in the region's own header slot pair.
-    Slot,
+    Slot = 3,
 }
 
 impl RegionKind {
@@ -184,12 +161,11 @@ impl RegionKind {
     pub fn to_u8(self) -> u8
         ensures { result ≡ kind_number self }
     {
-        match self {
-            Self::Append => 1,
-            Self::Page => 2,
-            Self::Slot => 3,
-        }
+        self as u8
     }
+
+    // A row a case, here and of states: nothing but a `match` makes a case of a number. Kinds and states differ in their cases and refusals,
+    // so one function for both would be told them all.
 
     /// The kind of a stored byte.
     pub fn from_u8(v: u8) -> Result<Self, MetaError>
@@ -208,9 +184,9 @@ impl RegionKind {
 #[derive(Clone, Copy)]
 pub enum RegionState {
     /// Provisioned and usable.
-    Ready,
+    Ready = 1,
     /// Released; its space may be reused after a new provisioning.
-    Released,
+    Released = 2,
 }
 
 impl RegionState {
@@ -218,10 +194,7 @@ impl RegionState {
     pub fn to_u8(self) -> u8
         ensures { result ≡ state_number self }
     {
-        match self {
-            Self::Ready => 1,
-            Self::Released => 2,
-        }
+        self as u8
     }
 
     /// The state of a stored byte.
@@ -239,7 +212,8 @@ impl RegionState {
 /// Most bytes of a region's name.
 pub const NAME_MAX: usize = 24;
 
-/// A region name: 1 to 24 bytes of UTF-8, no NUL bytes; zeros behind them.
+/// A region name: 1 to 24 bytes of UTF-8, no NUL bytes; zeros after them.
+// 24 bytes and a length: there is no heap, and the bytes are stored so.
 #[derive(Clone, Copy)]
 pub struct RegionName {
     pub bytes: [u8; NAME_MAX],
@@ -287,6 +261,7 @@ impl RegionName {
 }
 
 /// Bytes as text; none where they are not UTF-8.
+#[tactic(auto, using(crate::proofs::Utf8Laws::utf8_from_std, crate::proofs::Utf8Laws::not_utf8))]
 fn text(bytes: &[u8]) -> &str
     ensures { result.now ≡ text bytes.now }
 {
@@ -316,10 +291,7 @@ fn zero_at(bytes: &[u8]) -> usize
     ensures value { result ≡ zero_at bytes.now }
     ensures within { result ≤ length bytes.now }
 {
-    match bytes.iter().position(|&b| b == 0) {
-        Some(i) => i,
-        None => bytes.len(),
-    }
+    bytes.iter().position(|&b| b == 0).unwrap_or(bytes.len())
 }
 
 /// Whether every byte is zero.
@@ -328,6 +300,11 @@ pub(crate) fn all_zero(bytes: &[u8]) -> bool
 {
     bytes.iter().all(|&b| b == 0)
 }
+
+/// Smallest and largest block, and table slot, as a power of two: 4 KiB and 64 KiB.
+pub(crate) const MIN_LOG2_BLOCK: u8 = 12;
+
+pub(crate) const MAX_LOG2_BLOCK: u8 = 16;
 
 /// Encoded length of [`VolumeMeta`].
 pub const VOLUME_META_LEN: usize = 48;
@@ -378,6 +355,8 @@ impl VolumeMeta {
         base.check(reserved_word, reserved_tail)?;
         Ok(base)
     }
+
+    // Read, checked and written field by field, here and in `meta2`: the layout and its rules stand in the row.
 
     /// The fields and the two reserved ones, in the order of the layout.
     #[tactic(auto, unfolding(crate::specs::Base::base_at))]
@@ -438,10 +417,12 @@ impl VolumeMeta {
         if reserved_word != 0 || reserved_tail != 0 {
             return Err(MetaError::Field(Field::Reserved));
         }
-        if self.log2_block_size < 12 || self.log2_block_size > 16 {
+        if self.log2_block_size < MIN_LOG2_BLOCK || self.log2_block_size > MAX_LOG2_BLOCK {
             return Err(MetaError::Field(Field::Log2BlockSize));
         }
-        if self.log2_table_slot_size < self.log2_block_size || self.log2_table_slot_size > 16 {
+        if self.log2_table_slot_size < self.log2_block_size
+            || self.log2_table_slot_size > MAX_LOG2_BLOCK
+        {
             return Err(MetaError::Field(Field::Log2TableSlotSize));
         }
         if self.table_offset % (1 << self.log2_block_size) != 0 {

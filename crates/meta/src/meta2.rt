@@ -33,7 +33,7 @@
 //! | 32 | 4 | tag | |
 //! | 36 | 2 | extent_count | 0 for a slot region, else at least 1 |
 //! | 38 | 2 | reserved | zero (checked with the page) |
-//! | 40 | 8 | header_a | whole blocks, in the span, behind the table |
+//! | 40 | 8 | header_a | whole blocks, in the span, after the table |
 //! | 48 | 8 | header_b | the same, another one |
 //! | 56 | 8 | data_size | at most the capacity |
 //! | 64 | 8 | capacity | at most the span; whole blocks |
@@ -53,7 +53,8 @@ ghost use Rattle.meta.specs.Table.{Table};
 ghost use Rattle.meta.specs.Page.{header_at, decode_page, Gives, parts, entries, seq, shares, check_own, check_entries, header_row, stored_part, encode_page, HeaderLayout, PagesBack};
 
 use crate::meta::{
-    Field, MetaError, NAME_MAX, RegionKind, RegionName, RegionState, VolumeMeta, all_zero,
+    Field, MAX_LOG2_BLOCK, MIN_LOG2_BLOCK, MetaError, NAME_MAX, RegionKind, RegionName,
+    RegionState, VolumeMeta, all_zero,
 };
 use codec::codec::{Reader, Writer};
 
@@ -79,10 +80,10 @@ pub const KNOWN_FLAGS: u8 = FLAG_UNWRITTEN | FLAG_CAPPED;
 pub fn block_size(log2: u8) -> u64
     ensures { result ≡ block_size log2 }
 {
-    1 << log2.clamp(12, 16)
+    1 << log2.clamp(MIN_LOG2_BLOCK, MAX_LOG2_BLOCK)
 }
 
-/// Entries per table page for a table slot of that size: what fits behind the slot's header and the page's.
+/// Entries per table page for a table slot of that size: what fits after the slot's header and the page's.
 #[tactic(auto, unfolding(crate::specs::Block::entries_per_page), using(crate::proofs::BlockLaws::block_range))]
 pub fn entries_per_page(log2_table: u8) -> u16
     ensures { result ≡ entries_per_page log2_table }
@@ -106,7 +107,7 @@ pub struct VolumeMeta2 {
     pub flags: u32,
 }
 
-/// What is stored behind the base.
+/// What is stored after the base.
 #[derive(Clone, Copy)]
 struct Tail {
     table_pages: u32,
@@ -118,7 +119,7 @@ struct Tail {
 }
 
 impl Tail {
-    /// The fields behind the base, in the order of the layout.
+    /// The fields after the base, in the order of the layout.
     #[tactic(auto, unfolding(crate::specs::Volume::tail_at))]
     fn read(bytes: &[u8]) -> Option<Self>
         ensures { result ≡ tail_at bytes.now }
@@ -240,11 +241,13 @@ impl VolumeMeta2 {
     pub fn table_end(&self) -> Result<u64, MetaError>
         ensures { result ≡ table_end self.now }
     {
-        if self.base.log2_block_size < 12 || self.base.log2_block_size > 16 {
+        if self.base.log2_block_size < MIN_LOG2_BLOCK
+            || self.base.log2_block_size > MAX_LOG2_BLOCK
+        {
             return Err(MetaError::Field(Field::Log2BlockSize));
         }
         if self.base.log2_table_slot_size < self.base.log2_block_size
-            || self.base.log2_table_slot_size > 16
+            || self.base.log2_table_slot_size > MAX_LOG2_BLOCK
         {
             return Err(MetaError::Field(Field::Log2TableSlotSize));
         }
@@ -512,7 +515,7 @@ impl RawEntry {
         if self.flags > KNOWN_FLAGS {
             return Err(MetaError::Field(Field::Flags));
         }
-        if lim.log2_block < 12 || lim.log2_block > 16 {
+        if lim.log2_block < MIN_LOG2_BLOCK || lim.log2_block > MAX_LOG2_BLOCK {
             return Err(MetaError::Field(Field::Log2Block));
         }
         let Ok(kind) = RegionKind::from_u8(self.kind) else {
@@ -571,7 +574,7 @@ impl RawEntry {
         Ok(())
     }
 
-    /// A header's block lies in the span and behind the table.
+    /// A header's block lies in the span and after the table.
     #[tactic(auto, unfolding(crate::specs::Check::check_header), using(crate::proofs::BlockLaws::block_range))]
     fn check_header(&self, header: u64, lim: &EntryLimits) -> Result<(), MetaError>
         ensures { result ≡ check_header self.now header lim.now }
@@ -698,7 +701,7 @@ impl<'a> Page<'a> {
 }
 
 impl PageHeader {
-    /// The header and the fourteen bytes behind it, in the order of the layout.
+    /// The header and the fourteen bytes after it, in the order of the layout.
     #[tactic(auto, unfolding(crate::specs::Page::header_at))]
     fn read(bytes: &[u8]) -> Option<(Self, [u8; 14])>
         ensures { result ≡ header_at bytes.now }
@@ -769,7 +772,7 @@ pub fn decode_page(bytes: &[u8], page_index: u32, max_entries: u16) -> Result<Pa
     })
 }
 
-/// The entries behind the header.
+/// The entries after the header.
 #[tactic(auto, unfolding(crate::specs::Page::entries))]
 fn entries(bytes: &[u8]) -> &[[u8; ENTRY2_LEN]]
     requires { 24 ≤ length bytes.now }
@@ -825,6 +828,7 @@ fn one_of(entries: &[[u8; ENTRY2_LEN]], number: u32) -> bool
 }
 
 /// An entry's sequence number.
+#[tactic(auto, using(crate::proofs::PageLaws::front_number))]
 fn seq(e: &[u8; ENTRY2_LEN]) -> u32
     ensures { result ≡ seq e.now }
 {
@@ -857,6 +861,7 @@ pub fn encode_page(
     Ok(len)
 }
 
+// By index: of what a slice ends as, `chunks_mut` and `as_chunks_mut` say nothing, and over them the proof did not close.
 /// Writes each entry to its own place.
 fn write_entries(out: &mut [u8], entries: &[[u8; ENTRY2_LEN]])
     requires { length out.old ≡ length entries.now * 96 }

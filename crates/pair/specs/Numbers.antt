@@ -9,7 +9,7 @@ use Rattle.pair.specs.declared.pair.Winner.{Winner}
 use Rattle.pair.specs.declared.pair.PairReport.{PairReport}
 use Rattle.pair.specs.Pair.{next_write}
 
--- The numbers of the judge's standings, and behind them 4 Empty and 5 Fork.
+-- The numbers of the judge's standings, and after them 4 Empty and 5 Fork.
 abbrev pub winner_number : Winner → ℕ
 winner_number (Winner.Confirmed index) = 0
 winner_number (Winner.Unconfirmed index) = 1
@@ -38,7 +38,7 @@ report_numbers r =
     ∷ choice_number (next_write r)
     ∷ []
 
--- The winner's slot and what is known of it; nothing behind the 0 without a winner.
+-- The winner's slot and what is known of it; nothing after the 0 without a winner.
 abbrev pub info_numbers : Option (SlotIndex × SlotInfo) → List ℕ
 info_numbers (Some won) = slot_number won.0 ∷ info_values won.1
 info_numbers None = 0 ∷ []

@@ -37,7 +37,8 @@ pub enum Winner {
 }
 
 impl Winner {
-    // The number of a standing: 0 to 3 as of a verdict, 4 Empty, 5 Fork.
+    // The number of a standing: 0 to 3 as of a verdict, 4 Empty, 5 Fork. By a `match`, since a cast numbers no case that holds a slot; and not
+    // one function with a verdict's number, since a verdict has four cases and none of them holds one.
     pub fn number(self) -> u8
         ensures { result ≡ winner_number self }
     {
@@ -90,6 +91,8 @@ impl PairReport {
             choice_number(self.next_write()),
         ]
     }
+
+    // `numbers`, here and below, says the same in the numbers that C gets, a promise on which callers may rest.
 
     // The winning slot's facts, if a winner was chosen.
     pub fn winner_info(self) -> Option<(SlotIndex, SlotInfo)>

@@ -1,7 +1,7 @@
 // Replays the reference's answers, which compare/src/list_codec.rs makes, against the functions that C hosts call.
 //
 // A line of standard input is a case, `NAME INPUT EXPECTED`: the function's answer to INPUT must be EXPECTED, byte for byte. Numbers are
-// little-endian in their own width, sizes 8 bytes; a buffer comes last, or behind its length in 2 bytes where a field follows.
+// little-endian in their own width, sizes 8 bytes; a buffer comes last, or after its length in 2 bytes where a field follows.
 //
 // | NAME | INPUT | EXPECTED |
 // |---|---|---|

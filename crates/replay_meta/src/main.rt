@@ -202,7 +202,7 @@ fn ben(input: &[u8], answer: &mut Bytes) -> Option<()> {
 
 // ---- buffers
 
-// A buffer as it is before the call, the byte that it holds everywhere, and what stands behind both.
+// A buffer as it is before the call, the byte that it holds everywhere, and what stands after both.
 fn buffer(input: &[u8]) -> Option<(Bytes, u8, &[u8])> {
     let (length, rest) = first_length(input)?;
     let (fill, rest) = first_u8(rest)?;

@@ -1,5 +1,5 @@
 -- What a slot's answer depends on: the first 128 bytes, those of the header where it is longer, the length, and the payload. The bytes
--- behind the payload do not count.
+-- after the payload do not count.
 use Rattle.std.proofs.Common.{◌≡◌, refl, sym, ap, ap₂, ◌∙◌, Bool, true, false, List, ◌++◌, ℕ, ◌-◌, ◌≤◌, arith, lit≤, length, take, replicate, ltb, Some, None, Result, Ok, Err}
 use Rattle.std.specs.Prelude.{nat_lt, is_ok, if◌then◌else◌}
 use Rattle.std.specs.Int.{w8, w16, w32, w64}

@@ -1,4 +1,4 @@
--- What `encode` wrote is Valid with its fields and its payload, whatever stands behind it: an `encode` that refuses nothing has passed every
+-- What `encode` wrote is Valid with its fields and its payload, whatever stands after it: an `encode` that refuses nothing has passed every
 -- test that the reader asks for.
 use Rattle.std.proofs.Common.{◌≡◌, refl, ap, ◌∙◌, Bool, true, false, not, ◌&&◌, ◌||◌, List, ◌++◌, ℕ, ◌+◌, ◌-◌, ◌^◌, ◌==◌, ◌≤◌, ◌<◌, arith, eq-eqb, le-leb, le-ltb, ltb-false, eqb-true, leb-true, length, take, replicate, length-append, take_at, drop_at, Ok}
 use Rattle.std.specs.Prelude.{nat_eq, nat_le, nat_lt}
@@ -123,7 +123,7 @@ module _ {f : SlotFields} {numbered : Bool} (proper : Proper f numbered) (payloa
           le-ltb _ _ behind,
         )
 
--- ---- the slot with its payload, whatever stands behind it
+-- ---- the slot with its payload, whatever stands after it
 
 module _ {f : SlotFields} {numbered : Bool} (proper : Proper f numbered) (payload behind : List ℕ) (payload_fits : length payload < 2 ^ 32) where
   abbrev full : List ℕ

@@ -26,7 +26,7 @@ module _ (crc : ℕ) (f : SlotFields) (n payload_crc : ℕ) (rest : List ℕ) (v
   abbrev s : List ℕ
   s = header_bytes crc f n payload_crc ++ rest
 
-  -- The fields behind the volume's, from offset 48 on.
+  -- The fields after the volume's, from offset 48 on.
   abbrev last : List ℕ
   last = concat (drop 9 (header_row crc f n payload_crc))
 
@@ -46,7 +46,7 @@ module _ (crc : ℕ) (f : SlotFields) (n payload_crc : ℕ) (rest : List ℕ) (v
   unfolding le
   number_at w k v is = ap (λ (l : List ℕ). from_le_bytes w (take (byte_len w) l)) (behind k) ∙ is
 
-  -- The checksum counts its own field as zero, and nothing behind the header.
+  -- The checksum counts its own field as zero, and nothing after the header.
   pub sum_written : header_sum s 128 ≡ crc32c (header_bytes 0 f n payload_crc)
   unfolding header_sum header_bytes
   sum_written =

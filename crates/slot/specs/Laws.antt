@@ -21,7 +21,7 @@ pub record SameHeader (m : ℕ) (s t : List ℕ) : Type 0 where
   pub whole : le16 s 12 ≤ m
   pub sizes : length s ≡ length t
 
--- Such slots show the same, and have the same status where they have the same payload: the bytes behind the payload do not count.
+-- Such slots show the same, and have the same status where they have the same payload: the bytes after the payload do not count.
 pub record PaddingLaw : Type 0 where
   pub facts_same : (m : ℕ) (s t : List ℕ) → SameHeader m s t → (e : Expect) → header_facts s e ≡ header_facts t e
   pub status_same : (m : ℕ) (s t : List ℕ) → SameHeader m s t → (e : Expect)
@@ -95,7 +95,7 @@ pub record IsReadBack (s : List ℕ) (f : SlotFields) (payload : List ℕ) (numb
   pub valid : validate s (expect_of f numbered) ≡ SlotStatus.Valid (info_of f payload)
   pub payload_same : payload_of (info_of f payload) s ≡ payload
 
--- What `encode` does not refuse is read back by a reader that expects it: of the buffer that it wrote, and whatever stands behind the
+-- What `encode` does not refuse is read back by a reader that expects it: of the buffer that it wrote, and whatever stands after the
 -- payload.
 pub record RoundTrip : Type 0 where
   pub written : (f : SlotFields) (payload buffer : List ℕ) (numbered : Bool) → Fits f → encode_check f payload (length buffer) ≡ Ok tt

@@ -24,7 +24,7 @@ info_values i =
     ∷ i.payload_len
     ∷ []
 
--- The values that go with a status, zeros behind them: the format of UnsupportedVersion, the flags of Incompatible.
+-- The values that go with a status, zeros after them: the format of UnsupportedVersion, the flags of Incompatible.
 abbrev pub status_values : SlotStatus → List ℕ
 status_values (SlotStatus.UnsupportedVersion major) = major ∷ replicate 8 0
 status_values (SlotStatus.Incompatible flags) = flags ∷ replicate 8 0

@@ -50,7 +50,7 @@ is_misplaced h e =
 
 -- All but the payload's checksum: magic 3; header length or checksum 4; format 5; an incompatible flag 6; shape 7; volume 8; object 9;
 -- place 10; payload too long for the slot 7.
--- In another format, or with a flag that is not known, the fields behind may mean something else: such a slot is neither read nor
+-- In another format, or with a flag that is not known, the later fields may mean something else: such a slot is neither read nor
 -- overwritten. The payload's length comes after identity and size: a header of a larger slot is Misplaced and not Malformed, and only of
 -- this slot does its length say anything.
 unfoldable pub check : List ℕ → Header → Expect → Result (Unit {0}) SlotStatus

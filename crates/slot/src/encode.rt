@@ -5,8 +5,8 @@ ghost use Rattle.codec.specs.Cursor.{write_row};
 ghost use Rattle.slot.specs.Write.{header_row, header_bytes, header_crc, slot_bytes, format_ok, encode};
 
 use crate::slot::{
-    EncodeError, FORMAT_1, FORMAT_2, HEADER_LEN, MAGIC, MAX_LOG2_SLOT_SIZE, MIN_LOG2_SLOT_SIZE,
-    SLOT_COUNT, SlotFields,
+    CRC_END, CRC_START, EncodeError, FORMAT_1, FORMAT_2, HEADER_LEN, MAGIC, MAX_LOG2_SLOT_SIZE,
+    MIN_LOG2_SLOT_SIZE, SLOT_COUNT, SlotFields,
 };
 use codec::codec::{Writer, copy};
 use codec::crc32c::crc32c;
@@ -56,7 +56,7 @@ fn write_slot(out: &mut [u8], f: &SlotFields, payload: &[u8]) -> Result<u32, Enc
     seal(header, f, payload.len() as u32, crc32c(payload))
 }
 
-// The payload, and zeros behind it.
+// The payload, and zeros after it.
 fn fill_body(body: &mut [u8], payload: &[u8])
     requires { length payload.now ≤ length body.old }
     ensures { body.new ≡ payload.now ++ replicate (length body.old - length payload.now) 0 }
@@ -82,11 +82,11 @@ fn seal(
         return Err(EncodeError::BufferLength);
     };
     let crc = crc32c(header);
-    header[8..12].copy_from_slice(&crc.to_le_bytes());
+    header[CRC_START..CRC_END].copy_from_slice(&crc.to_le_bytes());
     Ok(crc)
 }
 
-// Writes every field in the order of the layout, the header's own CRC as zero.
+// Writes every field in the order of the layout, the header's own CRC as zero. Field by field, as it is read: the layout stands in the row.
 fn write_header(
     header: &mut [u8],
     f: &SlotFields,

@@ -31,7 +31,7 @@ pub struct Header {
     pub reserved2: [u8; 24],
 }
 
-// The header at the start of `slot`, if it is there.
+// The header at the start of `slot`, if it is there. Field by field: the layout stands in the row.
 #[tactic(auto, unfolding(crate::specs::Header::header_read))]
 #[inline(always)]
 pub fn read_header(slot: &[u8]) -> Option<Header>

@@ -9,7 +9,7 @@ pub fn layout_law()
     ensures { HeaderLayout }
 {}
 
-// Does nothing: its contract is that the bytes behind the payload do not count.
+// Does nothing: its contract is that the bytes after the payload do not count.
 #[tactic(auto, using(crate::proofs::PaddingLaws::padding_law))]
 pub fn padding_law()
     ensures { PaddingLaw }
@@ -21,7 +21,7 @@ pub fn status_law()
     ensures { StatusRange }
 {}
 
-// Does nothing: its contract is that what `encode` wrote is Valid with its fields and its payload, whatever stands behind it.
+// Does nothing: its contract is that what `encode` wrote is Valid with its fields and its payload, whatever stands after it.
 #[tactic(auto, using(crate::proofs::RoundTripLaws::round_trip))]
 pub fn round_trip_law()
     ensures { RoundTrip }

@@ -15,7 +15,8 @@ pub fn choice_number(choice: Option<SlotIndex>) -> u8
 }
 
 impl SlotStatus {
-    // The values that go with the status, zeros behind them: the format that is not supported, the flags that are not known, or the facts
+    // A row for each case that has values, by the places that C and the lists have them in.
+    // The values that go with the status, zeros after them: the format that is not supported, the flags that are not known, or the facts
     // about a valid slot.
     pub fn values(&self) -> [u64; 9]
         ensures { result ≡ status_values self.now }
@@ -38,6 +39,7 @@ impl SlotStatus {
         }
     }
 
+    // A row a case: nothing but a `match` makes a case of a number.
     // The status with this number, with these facts if it is valid. Format and flags that do not go with the number are 0.
     pub fn from_code(code: u32, info: SlotInfo) -> Option<Self>
         ensures { result ≡ status_of code info }

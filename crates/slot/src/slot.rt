@@ -17,7 +17,7 @@
 // | 48 | 8 | object_id | the expected object |
 // | 56 | 8 | generation | at least 1 |
 // | 64 | 8 | slot_offset | where this slot lies |
-// | 72 | 4 | payload_len | what fits behind the header |
+// | 72 | 4 | payload_len | what fits after the header |
 // | 76 | 1 | slot_index | 0 A, 1 B |
 // | 77 | 1 | slot_count | 2 |
 // | 78 | 1 | log2_slot_size | 9 to 16 |
@@ -42,6 +42,10 @@ pub const HEADER_LEN: usize = 128;
 pub const FORMAT_1: u16 = 1;
 // On-disk format 2: the paged region table, and `meta_seq` in the header.
 pub const FORMAT_2: u16 = 2;
+// Where the header's own CRC starts and ends in it.
+pub(crate) const CRC_START: usize = 8;
+
+pub(crate) const CRC_END: usize = 12;
 // Number of slots in a pair.
 pub const SLOT_COUNT: u8 = 2;
 // Smallest slot size, as a power of two: 512 bytes.
@@ -61,10 +65,7 @@ impl SlotIndex {
     pub fn as_u8(self) -> u8
         ensures { result ≡ index_number self }
     {
-        match self {
-            Self::A => 0,
-            Self::B => 1,
-        }
+        self as u8
     }
 
     // Its number where 0 stands for no slot: 1 A, 2 B.
@@ -116,15 +117,15 @@ pub struct SlotFields {
 #[derive(Clone, Copy)]
 pub enum EncodeError {
     // `log2_slot_size` is outside 9..=16.
-    SlotSize,
+    SlotSize = 1,
     // The output buffer length is not exactly the slot size.
-    BufferLength,
+    BufferLength = 2,
     // The payload does not fit after the header.
-    PayloadTooLarge,
+    PayloadTooLarge = 3,
     // Generation 0 is never written.
-    ZeroGeneration,
+    ZeroGeneration = 4,
     // `format_major` is not 1 or 2, or format 1 was given a `meta_seq`.
-    Format,
+    Format = 5,
 }
 
 impl EncodeError {
@@ -132,13 +133,7 @@ impl EncodeError {
     pub fn number(self) -> u8
         ensures { result ≡ error_number self }
     {
-        match self {
-            Self::SlotSize => 1,
-            Self::BufferLength => 2,
-            Self::PayloadTooLarge => 3,
-            Self::ZeroGeneration => 4,
-            Self::Format => 5,
-        }
+        self as u8
     }
 }
 
@@ -178,7 +173,7 @@ pub struct SlotInfo {
     pub compat_flags: u32,
     // Format 2: the metadata sequence number (0 in format 1).
     pub meta_seq: u64,
-    // Where the payload starts, and how many bytes it has.
+    // Where the payload starts, and how many bytes it has: two numbers and no slice, since C gets them.
     pub payload_start: u16,
     pub payload_len: u32,
 }
@@ -236,7 +231,7 @@ pub enum SlotStatus {
 }
 
 impl SlotStatus {
-    // The number of the status.
+    // The number of the status. Cases with values are numbered by a `match`: a cast numbers none.
     pub fn code(&self) -> u8
         ensures { result ≡ code self.now }
     {

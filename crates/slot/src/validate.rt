@@ -6,12 +6,13 @@ ghost use Rattle.slot.specs.Read.{is_slot_length, is_blank, number_ok, passes_ch
 
 use crate::header::{Header, read_header};
 use crate::slot::{
-    Expect, FORMAT_1, FORMAT_2, HEADER_LEN, HeaderFacts, MAGIC, MAX_LOG2_SLOT_SIZE,
-    MIN_LOG2_SLOT_SIZE, NumberedHeader, SLOT_COUNT, SlotInfo, SlotStatus,
+    CRC_END, CRC_START, Expect, FORMAT_1, FORMAT_2, HEADER_LEN, HeaderFacts, MAGIC,
+    MAX_LOG2_SLOT_SIZE, MIN_LOG2_SLOT_SIZE, NumberedHeader, SLOT_COUNT, SlotInfo, SlotStatus,
 };
 use codec::crc32c::{crc32c, crc32c_gap};
 
-// Validates one slot read from `e.slot_offset`.
+// Validates one slot read from `e.slot_offset`. Bytes and what is expected of them are two arguments, as in the Rust: a struct of both would
+// be made for this call alone. `numbers` says the same in the numbers that C gets, a promise on which callers may rest.
 #[tactic(auto, using(crate::proofs::Room::room), unfolding(crate::specs::Read::validate))]
 pub fn validate(slot: &[u8], e: &Expect) -> SlotStatus
     ensures value { result ≡ validate slot.now e.now }
@@ -61,6 +62,8 @@ pub fn read_slot(slot: &[u8], e: &Expect) -> (SlotStatus, Option<HeaderFacts>)
     (h.status(slot, checked), h.facts(checked.is_ok()))
 }
 
+// Here and in `is_blank` a slot is asked to have 128 bytes: a type that says so would be taken apart at each use, since the checks need the
+// slot's own length too.
 impl Header {
     // Every check up to the payload's CRC, in their order. `Err` carries the first status that fails.
     #[tactic(auto, using(crate::proofs::Room::passes_within, crate::proofs::Room::stands), unfolding(crate::specs::Read::check))]
@@ -107,7 +110,7 @@ impl Header {
     }
 
     // Whether the header has the checksum that it stores, over the length that it says. The magic stands, so its bytes and the zeros
-    // behind it are summed when this is compiled.
+    // after it are summed when this is compiled.
     #[tactic(auto, unfolding(crate::specs::Read::passes_checksum, crate::specs::Read::header_sum))]
     fn passes_checksum(&self, slot: &[u8]) -> bool
         requires size { 128 ≤ length slot.now }
@@ -116,7 +119,7 @@ impl Header {
     {
         let len = usize::from(self.header_len);
         (HEADER_LEN..=slot.len()).contains(&len)
-            && crc32c_gap(&MAGIC, 4, &slot[12..len]) == self.header_crc32c
+            && crc32c_gap(&MAGIC, CRC_END - CRC_START, &slot[CRC_END..len]) == self.header_crc32c
     }
 
     // Whether a field holds a value that is never written.
@@ -162,7 +165,7 @@ impl Header {
         crc32c(self.info().payload(slot)) == self.payload_crc32c
     }
 
-    // What a valid slot shows of its header.
+    // What a valid slot shows of its header, field by field: the two have names in common and no derive that copies them.
     fn info(&self) -> SlotInfo
         ensures { result ≡ header_info self.now }
     {

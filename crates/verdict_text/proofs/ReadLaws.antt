@@ -1,4 +1,4 @@
--- A text is cut at the place of its first newline, and its lines are the one cut off and those behind it; a frame's line has its width.
+-- A text is cut at the place of its first newline, and its lines are the one cut off and those after it; a frame's line has its width.
 use Rattle.std.proofs.Common.{◌≡◌, refl, sym, ap, ◌∙◌, Bool, true, false, ℕ, ◌+◌, ◌-◌, ◌*◌, ◌<◌, suc, List, [], ◌∷◌, ◌++◌, length, take, drop, append_assoc, arith, add-one, cond, nat_eq, nat_lt, ltb-true, ltb-false, lt-ltb, le-ltb, ◌≤◌, Option, Some, None, if◌then◌else◌}
 use Rattle.std.proofs.lemmas.Slice.{take-put_mid}
 use borrow.Rule.Slice.PartMut.{put_mid}
@@ -116,7 +116,7 @@ module _ (front text all : List ℕ) (so_far : joined (Some front) (frames_in te
         ∙ ap (λ (f : Option (List ℕ)). joined (Some front) (joined f (frames_in others))) (sym is)
         ∙ here _ first
 
--- A frame that is written behind n of them.
+-- A frame that is written after n of them.
 pub frame_written : (l frame : List ℕ) (n : ℕ) → length frame ≡ frame_width → (n + 1) * frame_width ≤ length l
     → take ((n + 1) * frame_width) (put_mid (n * frame_width) ((n + 1) * frame_width - n * frame_width) l frame) ≡ take (n * frame_width) l ++ frame
 frame_written l frame n size fits =

@@ -10,7 +10,7 @@ use Rattle.verdict_text.specs.Steps.{Fills, Reads}
 
 -- ---- one read, one write
 
--- The n bytes read into the part of xs from a place on stand behind those in front of it.
+-- The n bytes read into the part of xs from a place on stand after those in front of it.
 pub filled : (from room n : ℕ) (xs ys : List ℕ) → from ≤ length xs → n ≤ length ys → take (from + n) (put_mid from room xs ys) ≡ take from xs ++ take n ys
 filled from room n xs ys within fits =
     let held = length-take-le from xs within in

@@ -19,7 +19,7 @@ abbrev pub before : ℕ → Option (List ℕ × List ℕ) → Option (List ℕ �
 before x None = None
 before x (Some parts) = Some (x ∷ parts.0, parts.1)
 
--- A text up to the first c, and behind it.
+-- A text up to the first c, and after it.
 abbrev pub cut : ℕ → List ℕ → Option (List ℕ × List ℕ)
 cut c [] = None
 cut c (x ∷ text) = if x == c then Some ([], text) else before x (cut c text)

@@ -70,7 +70,7 @@ impl fmt::Display for AnswerError {
     }
 }
 
-/// Writes the answer to the text that `input` has left. Of a longer text the byte past the longest is read, and none behind it. A call that
+/// Writes the answer to the text that `input` has left. Of a longer text the byte past the longest is read, and none after it. A call that
 /// a signal interrupts is made again, and a write that takes nothing is a failure.
 pub fn answer<R: Read, W: Write>(input: &mut R, output: &mut W) -> Result<(), AnswerError>
     ensures left { Left (R.remaining input.old) (R.remaining input.new) result }

@@ -25,7 +25,7 @@ fn find(text: &[u8], c: u8) -> Option<usize>
     text.iter().position(|x| *x == c)
 }
 
-/// The text up to the first `c`, and behind it.
+/// The text up to the first `c`, and after it.
 #[tactic(auto, using(crate::proofs::ReadLaws::cut_at))]
 pub fn cut(text: &[u8], c: u8) -> Option<(&[u8], &[u8])>
     ensures size { IfSome result (λ parts. length parts.0.now + length parts.1.now + 1 ≡ length text.now) }

@@ -1,3 +1,4 @@
+-- `is_utf8` meets its contract: what std takes for text is what the grammar takes.
 use Rattle.std.proofs.Common.{◌∙◌}
 use Rattle.meta.proofs.Utf8Laws.{told}
 use Rattle.meta.proofs.meta.is_utf8.Goals as goal

@@ -1,3 +1,4 @@
+-- `encode_page` meets its contract: the row of writes fills the header's 24 bytes, so none is refused, and the entries stand after them.
 use Rattle.std.proofs.Common.{◌∙◌, ap, arith}
 use Rattle.meta.proofs.PageLaws.{header_fits, encoded}
 use Rattle.meta.proofs.meta2.encode_page.Goals as goal

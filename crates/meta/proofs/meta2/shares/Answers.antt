@@ -1,3 +1,4 @@
+-- `shares` meets its contract: the eights and the rest are all of the entries, and `any` asks each of them.
 use Rattle.std.proofs.Common.{◌∙◌, rules, tests}
 use Rattle.std.proofs.lemmas.Iterator.{YieldsList-from_slice}
 use Rattle.std.proofs.lemmas.Iterator.Search.{any_from_yields_List}

@@ -1,4 +1,4 @@
--- The entries before are written, and what lies behind them is as it was.
+-- The entries before are written, and what lies after them is as it was.
 use Rattle.std.proofs.Common.{◌≡◌, ◌++◌, ◌*◌, take, drop}
 use Rattle.std.specs.List.{flat_map}
 use Rattle.meta.specs.Page.{stored_part}

@@ -1,3 +1,4 @@
+-- `write_entry` meets its contract: the entry's bytes are copied, and the two at 38 are zeros then.
 use Rattle.meta.proofs.PageLaws.{zeroed}
 use Rattle.meta.proofs.meta2.write_entry.Goals as goal
 

@@ -1,4 +1,4 @@
--- What was read stands behind what was held.
+-- What was read stands after what was held.
 use Rattle.std.proofs.Common.{rules, sym, subst, ◌-◌, length}
 use Rattle.std.specs.Io.KnownBytes.{Consumes}
 use Rattle.std.proofs.KnownBytes.{Consumes-trans}

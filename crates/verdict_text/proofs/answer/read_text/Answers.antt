@@ -1,4 +1,4 @@
--- One byte more tells whether the text goes on behind a full buffer.
+-- One byte more tells whether the text goes on after a full buffer.
 use Rattle.std.proofs.Common.{rules}
 use Rattle.verdict_text.proofs.StepLaws.{reads_more}
 use Rattle.verdict_text.proofs.answer.read_text.Goals as goal

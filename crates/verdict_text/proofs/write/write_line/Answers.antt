@@ -1,4 +1,4 @@
--- The digits stand behind what was written, and the newline behind them.
+-- The digits stand after what was written, and the newline after them.
 use Rattle.std.proofs.Common.{refl, ◌∙◌, ap, ℕ, List, ◌+◌, ◌*◌, ◌++◌, [], ◌∷◌, append_assoc, arith, length, take}
 use Rattle.std.proofs.lemmas.Grind.{take-set_at}
 use Rattle.std.proofs.lemmas.Slice.{take-put_mid}

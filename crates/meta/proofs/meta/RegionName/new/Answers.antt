@@ -1,3 +1,4 @@
+-- `new` meets its contract: an accepted name fits in 24 bytes, and what is copied over zeros is the name as it is stored.
 use Rattle.std.proofs.Common.{refl, sym, ◌∙◌, length}
 use Rattle.std.proofs.lemmas.List.{drop-replicate}
 use Rattle.meta.proofs.NameLaws.{room, copied, named-name}
