@@ -1,7 +1,7 @@
 -- Lists of bytes: parts and joins of bytes are bytes, a number of a width is below its power, and lists that agree in front agree in what is
 -- read there.
-use Rattle.std.proofs.Common.{◌≡◌, sym, ap, ◌∙◌, List, [], ◌∷◌, ◌++◌, ℕ, zero, suc, ◌+◌, ◌≤◌, zero-add, suc-add, lit<, take, drop, replicate, take-take, get_or-drop}
-use Rattle.std.proofs.Math.Seq.{take-nil}
+use Rattle.std.proofs.Common.{◌≡◌, sym, ap, ◌∙◌, List, [], ◌∷◌, ◌++◌, ℕ, zero, suc, ◌+◌, ◌≤◌, lit<, take, drop, replicate, take-take, get_or-drop}
+use Rattle.std.proofs.lemmas.List.{drop-take}
 use Rattle.std.specs.Int.{Width, byte_len, from_le_bytes}
 use Rattle.codec.specs.Bytes.{AllBytes, le}
 
@@ -24,19 +24,13 @@ zero-bytes zero i = lit< tt
 zero-bytes (suc n) zero = lit< tt
 zero-bytes (suc n) (suc i) = zero-bytes n i
 
--- A run by the front of the list.
-run-front : (k n : ℕ) (s : List ℕ) → take n (drop k s) ≡ drop k (take (k + n) s)
-run-front zero n s = ap (λ (m : ℕ). take m s) (sym (zero-add n))
-run-front (suc k) n [] = take-nil n ∙ sym (ap (drop (suc k)) (take-nil (suc k + n)))
-run-front (suc k) n (x ∷ s) = run-front k n s ∙ ap (λ (m : ℕ). drop (suc k) (take m (x ∷ s))) (sym (suc-add k n))
-
 -- Lists that agree in their first m bytes agree in what is read of them there.
 module _ (m : ℕ) (s t : List ℕ) (agree : take m s ≡ take m t) where
   pub agree-front : (n : ℕ) → n ≤ m → take n s ≡ take n t
   agree-front n within = sym (take-take n m s within) ∙ ap (take n) agree ∙ take-take n m t within
 
   pub agree-run : (k n : ℕ) → k + n ≤ m → take n (drop k s) ≡ take n (drop k t)
-  agree-run k n within = run-front k n s ∙ ap (drop k) (agree-front (k + n) within) ∙ sym (run-front k n t)
+  agree-run k n within = sym (drop-take k n s) ∙ ap (drop k) (agree-front (k + n) within) ∙ drop-take k n t
 
   pub agree-number : (w : Width) (i : ℕ) → i + byte_len w ≤ m → le w s i ≡ le w t i
   unfolding le

@@ -3,6 +3,7 @@ use Rattle.std.proofs.Common.{◌≡◌, refl, sym, ap, ap₂, ◌∙◌, subst,
 use borrow.Author.Tests.{not-false}
 use borrow.Rule.Slice.PartMut.{put_mid}
 use Rattle.std.proofs.lemmas.Bool.{lt-leb}
+use Rattle.std.proofs.Math.Bool.{or_assoc}
 use Rattle.std.proofs.lemmas.List.Folds.{list_any-append}
 use Rattle.std.proofs.Math.Seq.{get_or-append_right}
 use Rattle.std.proofs.lemmas.Nat.{from_le_bytes-to_le_bytes_2, from_le_bytes-to_le_bytes_4}
@@ -31,10 +32,6 @@ front_number (a ∷ b ∷ c ∷ []) = refl
 front_number (a ∷ b ∷ c ∷ d ∷ e) = refl
 
 -- ---- a scan by eights
-
-or_assoc : (a b c : Bool) → ((a || b) || c) ≡ (a || (b || c))
-or_assoc true b c = refl
-or_assoc false b c = refl
 
 pub any_eights : {X : Type 0} (p : X → Bool) (k : ℕ) (xs : List X)
     → (list_any (λ ys. list_any p ys) (first_chunks 8 k xs) || list_any p (drop (k * 8) xs)) ≡ list_any p xs

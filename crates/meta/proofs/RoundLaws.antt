@@ -86,6 +86,8 @@ le_behind w n i front s same =
 
 -- ---- checks that passed
 
+-- The library has none of these three.
+
 pub passed : {A : Type 0} (b : Bool) (error : MetaError) {rest : Result A MetaError} {x : A}
     → (if b then Err error else rest) ≡ Ok x → (b ≡ false) × (rest ≡ Ok x)
 passed true error is = let never : ◌≡◌ {A = ℕ} 0 1 = cc in absurd (omega arith)

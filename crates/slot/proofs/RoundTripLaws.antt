@@ -3,6 +3,7 @@
 use Rattle.std.proofs.Common.{◌≡◌, refl, ap, ◌∙◌, Bool, true, false, not, ◌&&◌, ◌||◌, List, ◌++◌, ℕ, ◌+◌, ◌-◌, ◌^◌, ◌==◌, ◌≤◌, ◌<◌, arith, eq-eqb, le-leb, le-ltb, ltb-false, eqb-true, leb-true, length, take, replicate, length-append, take_at, drop_at, Ok}
 use Rattle.std.specs.Prelude.{nat_eq, nat_le, nat_lt}
 use Rattle.std.proofs.Math.ListN.{length-replicate}
+use Rattle.std.proofs.Math.Bool.{and-false}
 use borrow.Author.Tests.{not-false}
 use lib.Pointwise.{pointwise, bytes_decides}
 use Rattle.codec.specs.Crc32c.{crc32c}
@@ -63,10 +64,6 @@ known_format f is = go (f.format_major == 1) (f.format_major == 2) (f.meta_seq =
 index_small : (i : SlotIndex) → nat_lt 1 (index_number i) ≡ false
 index_small SlotIndex.A = refl
 index_small SlotIndex.B = refl
-
-and-false : (b : Bool) → (b && false) ≡ false
-and-false true = refl
-and-false false = refl
 
 -- What `encode` and the reader ask of the fields.
 pub record Proper (f : SlotFields) (numbered : Bool) : Type 0 where

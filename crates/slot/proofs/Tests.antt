@@ -1,4 +1,4 @@
--- Rows of tests that were passed: what each of them says.
+-- Rows of tests that were passed: what each of them says. The library has neither for `≡ true` and `≡ Ok`.
 use Rattle.std.proofs.Common.{◌≡◌, refl, Bool, true, false, ◌&&◌, Result, Ok, Err}
 use Rattle.std.specs.Prelude.{if◌then◌else◌}
 
