@@ -5,7 +5,7 @@ ghost use Rattle.store_io.specs.Host.{answer};
 
 use meta::meta::MetaError;
 
-// Hands over what was made.
+// Hands over what was made. The C interface answers a refusal as a number.
 pub fn give<T: Copy>(made: Result<T, MetaError>, place: &mut T) -> u32
     ensures { (result, place.new) ≡ answer number (λ x. x) place.old made }
 {

@@ -15,7 +15,7 @@ pub fn volume_id(volume0: u64, volume1: u64) -> [u8; 16]
     id
 }
 
-// Any number but 0 is B.
+// Any number but 0 is B: the C interface has a number for a case.
 pub fn index_of(index: u32) -> SlotIndex
     ensures { result ≡ index_of index }
 {

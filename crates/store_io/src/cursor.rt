@@ -1,6 +1,8 @@
 // The cursor for C hosts: a number or a run of bytes at a position, which moves on where the step is done.
 //
 // A refusal, 6 for a read and 7 for a write, leaves the position, the value and every byte as they were.
+//
+// The C interface has one function a type: each is written out, with buffer and position as a host hands them over.
 ghost use Rattle.std.specs.Prelude.{◌≡◌, replicate};
 ghost use Rattle.std.specs.Int.{w8, w16, w32, w64, to_le_bytes};
 ghost use Rattle.codec.specs.Cursor.{number, run, write, remaining};

@@ -1,4 +1,6 @@
 // Table entries for C hosts.
+//
+// The C interface has one function an answer, and no records: each is written out, with the limits number by number.
 ghost use Rattle.std.specs.Prelude.{◌≡◌};
 ghost use Rattle.meta.specs.Entry.{read_entry, write_entry, entry_bytes};
 ghost use Rattle.meta.specs.Error.{number};
@@ -26,6 +28,7 @@ pub extern "C" fn sio_read_entry(entry: &[u8], found: &mut [u64; 15], name: &mut
 }
 
 // The numbers of an entry as stored, in the layout's order but for the name.
+// The C interface has a row of numbers for a record, one for each layout.
 pub fn raw_values(e: &RawEntry) -> [u64; 15]
     ensures { result ≡ raw_values e.now }
 {
@@ -267,6 +270,7 @@ pub extern "C" fn sio_reserved_span(
 }
 
 // Start and end, two zeros for none.
+// The C interface has a row of numbers for a record.
 pub fn span_values(span: Option<(u64, u64)>) -> [u64; 2]
     ensures { result ≡ span_values span }
 {

@@ -29,6 +29,7 @@ pub extern "C" fn sio_judge(
 }
 
 // The slot to heal and its pair, zeros without one; writable, clean, refused.
+// The C interface has a row of numbers for a record.
 pub fn judgement_values(j: &Judgement) -> [u64; 5]
     ensures { result ≡ judgement_values j.now }
 {

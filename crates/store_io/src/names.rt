@@ -1,4 +1,6 @@
 // Region names for C hosts.
+//
+// The C interface has one function a type, and a name's length beside its bytes: each is written out.
 ghost use Rattle.std.specs.Prelude.{◌≡◌};
 ghost use Rattle.meta.specs.Error.{number};
 ghost use Rattle.meta.specs.Name.{named, padded};

@@ -30,6 +30,7 @@ pub extern "C" fn sio_decode_page(
 }
 
 // Index, next seq and count, then the start and the length of the entries.
+// The C interface has a row of numbers for a record.
 pub fn page_values(h: &PageHeader) -> [u64; 5]
     ensures { result ≡ page_values h.now }
 {

@@ -37,6 +37,7 @@ pub extern "C" fn sio_decide(
 }
 
 // The winner's standing and slot, gap, chain break, and the slot of the next write.
+// The C interface has a row of numbers for a record.
 #[tactic(auto, unfolding(crate::specs::Pairs::report_bytes, pair::specs::Numbers::report_numbers))]
 pub fn report_bytes(report: &PairReport) -> [u8; 5]
     ensures { result ≡ report_bytes report.now }

@@ -46,6 +46,7 @@ pub extern "C" fn sio_heal_number(frames: &[u8], number: &mut u64) -> u32
 }
 
 // Slot, generation, previous checksum and number; zeros without a plan.
+// The C interface has a row of numbers for a record.
 pub fn plan_values(plan: Option<Plan>) -> [u64; 4]
     ensures { result ≡ plan_values plan }
 {
@@ -127,6 +128,23 @@ fn numbered_slot(
     )
 }
 
+// Slots A and B of a pair.
+fn numbered_pair(
+    volume0: u64,
+    volume1: u64,
+    object_id: u64,
+    a_offset: u64,
+    b_offset: u64,
+    log2_slot_size: u8,
+) -> (Expect, Expect)
+    ensures a { result.0 ≡ numbered_slot volume0 volume1 object_id a_offset 0 log2_slot_size }
+    ensures b { result.1 ≡ numbered_slot volume0 volume1 object_id b_offset 1 log2_slot_size }
+{
+    let a = numbered_slot(volume0, volume1, object_id, a_offset, 0, log2_slot_size);
+    let b = numbered_slot(volume0, volume1, object_id, b_offset, 1, log2_slot_size);
+    (a, b)
+}
+
 // Hands over a plan and the header's checksum.
 fn give(
     made: Result<Option<(Plan, u32)>, PlanError>,
@@ -170,8 +188,14 @@ pub extern "C" fn sio_next_write(
     ensures found { (result, plan.new, header_crc32c.new, slot.new) ≡ next_answer plan.old header_crc32c.old (next_write frames.now pair (numbered_slot volume0 volume1 object_id a_offset 0 log2_slot_size) (numbered_slot volume0 volume1 object_id b_offset 1 log2_slot_size) owner_generation compat_flags payload.now slot.old) }
     ensures survives { SurvivesCuts frames.now pair (numbered_slot volume0 volume1 object_id a_offset 0 log2_slot_size) (numbered_slot volume0 volume1 object_id b_offset 1 log2_slot_size) owner_generation compat_flags payload.now slot.old slot.new (next_write frames.now pair (numbered_slot volume0 volume1 object_id a_offset 0 log2_slot_size) (numbered_slot volume0 volume1 object_id b_offset 1 log2_slot_size) owner_generation compat_flags payload.now slot.old).1 }
 {
-    let a = numbered_slot(volume0, volume1, object_id, a_offset, 0, log2_slot_size);
-    let b = numbered_slot(volume0, volume1, object_id, b_offset, 1, log2_slot_size);
+    let (a, b) = numbered_pair(
+        volume0,
+        volume1,
+        object_id,
+        a_offset,
+        b_offset,
+        log2_slot_size,
+    );
     let made = next_write(
         frames,
         pair,

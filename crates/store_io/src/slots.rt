@@ -1,4 +1,6 @@
 // Slots for C hosts.
+//
+// The C interface has one function an answer, and no records: each is written out, with a slot's identity number by number.
 ghost use Rattle.std.specs.Prelude.{◌≡◌};
 ghost use Rattle.slot.specs.Status.{error_number};
 ghost use Rattle.slot.specs.Read.{validate, header_facts};
@@ -120,6 +122,7 @@ pub extern "C" fn sio_header_facts(
 }
 
 // Stored checksum, generation, number, previous checksum; zeros for those not shown.
+// The C interface has a row of numbers for a record.
 pub fn facts_values(facts: Option<HeaderFacts>) -> [u64; 4]
     ensures { result ≡ facts_values facts }
 {

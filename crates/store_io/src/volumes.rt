@@ -1,4 +1,6 @@
 // The volume record for C hosts.
+//
+// The C interface has one function a record, and no records as arguments: each is written out, with a record's fields number by number.
 ghost use Rattle.std.specs.Prelude.{◌≡◌};
 ghost use Rattle.meta.specs.Base.{decode_base, encode_base};
 ghost use Rattle.meta.specs.Block.{entries_per_page};
@@ -167,6 +169,7 @@ pub extern "C" fn sio_check_file_len(
 }
 
 // The numbers of a base, in the layout's order.
+// The C interface has a row of numbers for a record, one for each layout.
 pub fn base_values(v: &VolumeMeta) -> [u64; 7]
     ensures { result ≡ base_values v.now }
 {
