@@ -5,4 +5,3 @@ pub mod FrameLaws
 pub mod HealLaws
 pub mod PartLaws
 pub mod SameLaws
-pub mod JudgeExamples

@@ -1,13 +1,12 @@
 -- A slot's part of a frame shows what the slot as read shows, whatever stands in the fields that are not given, and is read back from its bytes.
-use Rattle.std.proofs.Common.{◌≡◌, refl, Bool, true, cond, List, [], ◌∷◌, ◌++◌, ℕ, ◌+◌, ◌<◌, arith, ne_eqb, leb, length, get_or, drop-cons, Option, Some, None}
+use Rattle.std.proofs.Common.{◌≡◌, refl, Bool, true, cond, List, [], ◌∷◌, ◌++◌, ℕ, ◌+◌, ◌<◌, arith, ne_eqb, leb, length, get_or, drop-cons, Option, Some, None, is_some}
 use Rattle.codec.proofs.ReadLaws.{Rest, onward, value_u32, value_u64}
 use Rattle.std.specs.Int.{w32, w64, to_le_bytes}
-use Rattle.slot.specs.Status.{code}
 use Rattle.slot.specs.declared.slot.SlotStatus.{SlotStatus}
 use Rattle.slot.specs.declared.slot.HeaderFacts.{HeaderFacts}
 use Rattle.judge.specs.declared.pairs.Version.{Version}
 use Rattle.judge.specs.declared.part.SlotPart.{SlotPart}
-use Rattle.judge.specs.Part.{part_of, part_bytes, part_at, part_shown, is_in_range, facts_number}
+use Rattle.judge.specs.Part.{part_of, part_bytes, part_at, part_status, part_shown, is_in_range, facts_number}
 use Rattle.judge.specs.Records.{shown_of}
 use Rattle.judge.specs.Same.{filled, NothingGiven, ChecksumGiven, VersionFits}
 
@@ -17,7 +16,7 @@ facts-small : (f : Option HeaderFacts) → leb (facts_number f) 2 ≡ true
 facts-small f = grind arith
 
 abbrev Shows : Version → SlotStatus → Option HeaderFacts → Type 0
-Shows rest st f = (part_shown (filled rest (part_of st f)) ≡ shown_of st f) × (leb (code st) 12 ≡ true)
+Shows rest st f = (part_shown (filled rest (part_of st f)) ≡ shown_of st f) × (is_some (part_status (filled rest (part_of st f))) ≡ true)
 
 shows : (rest : Version) (st : SlotStatus) (f : Option HeaderFacts) → Shows rest st f
 unfolding filled

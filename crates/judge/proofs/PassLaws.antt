@@ -1,6 +1,7 @@
 -- The first pass as the code makes it is the definition's: a candidate's number is the one that its slot counts for, so the code's rule and
 -- the definition's agree on every pair; and the tally kept from pair to pair is that of the row.
 use Rattle.std.proofs.Common.{◌≡◌, refl, ◌∙◌, subst, Bool, true, false, cond, ◌||◌, List, [], ◌∷◌, ℕ, suc, ◌+◌, ◌*◌, add-zero, zero-add, arith, Option, Some, None}
+use Rattle.std.proofs.Math.Bool.{or_assoc, or-false}
 use Rattle.std.specs.Option.{option_or}
 use Rattle.slot.specs.declared.slot.SlotIndex.{SlotIndex}
 use Rattle.slot.specs.Status.{other}
@@ -88,12 +89,6 @@ verdicts-same ps = verdicts-from (slots ps) 0 ps (λ j s at. subst (λ (k : ℕ)
 
 -- ---- its tally
 
-or-or : (x y z : Bool) → (x || y) || z ≡ x || (y || z)
-or-or x y z = grind arith
-
-or-none : (x : Bool) → x || false ≡ x
-or-none x = grind arith
-
 count-first : (n : ℕ) (v : PairVerdict) (vs : List PairVerdict) → cond (in_flight v) (n + 1) n + candidates vs ≡ n + candidates (v ∷ vs)
 count-first n v vs = grind arith
 
@@ -105,10 +100,10 @@ tallies-from : (m : Maxima) (t : Tally) (ps : List Pair)
       troubled = t.troubled || any_trouble (verdicts_by m ps);
       refused = t.refused || any_refused (verdicts_by m ps);
     }
-tallies-from m t [] = simp (add-zero, or-none)
+tallies-from m t [] = simp (add-zero, or-false)
 tallies-from m t (p ∷ ps) =
     let v = pair_verdict (by_maxima m) (pair_case p) in
-    tallies-from m (tallied t false (pair_case p) v) ps ∙ simp (or-or, count-first)
+    tallies-from m (tallied t false (pair_case p) v) ps ∙ simp (or_assoc, count-first)
 
 pub tally-same : (m : Maxima) (ps : List Pair) → tallies m true no_tally ps ≡ first_tally ps (verdicts_by m ps)
 unfolding first_tally

@@ -1,5 +1,5 @@
 -- What the passes leave of a row is its judgement, whatever the verdicts are kept in.
-use Rattle.std.proofs.Common.{◌≡◌, refl, ap, ◌∙◌, Bool, true, List, [], ◌∷◌, ◌++◌, ℕ, zero, suc, ◌+◌, ◌<◌, length, map, set, take, drop, arith, add-one, cond, false, eqb, leb, ◌≤◌, ◌&&◌, slice_get, Option, Some, None, Result, OnOk, OnErr, subst}
+use Rattle.std.proofs.Common.{◌≡◌, refl, ap, ◌∙◌, Bool, true, List, [], ◌∷◌, ◌++◌, ℕ, zero, suc, ◌+◌, ◌<◌, length, map, set, take, drop, arith, add-one, false, eqb, leb, slice_get, Option, Some, None, Result, Ok, OnOk, OnErr, subst}
 use Rattle.std.specs.Option.{option_or}
 use Rattle.std.specs.List.{list_all}
 use Rattle.std.proofs.lemmas.List.{drop-set-lt, take_more_set}
@@ -14,20 +14,15 @@ use Rattle.judge.specs.declared.verdict.JudgeError.{JudgeError}
 use Rattle.judge.specs.Numbers.{slots}
 use Rattle.judge.specs.Maxima.{no_maxima, note_all}
 use Rattle.judge.specs.Verdict.{in_flight}
-use Rattle.judge.specs.Judge.{demoted, pair_heal, first_verdicts, first_tally, volume_verdict, store_rules, last_verdicts, writable, row_rules, verdicts, judgement, error, unless, left}
+use Rattle.judge.specs.Judge.{demoted, pair_heal, first_verdicts, first_tally, volume_verdict, store_rules, last_verdicts, writable, row_rules, verdicts, judgement, unless, left}
 use Rattle.judge.specs.Passes.{verdicts_by, no_tally, tallies, heals}
 use Rattle.judge.specs.Same.{mark}
 use Rattle.judge.proofs.PassLaws.{verdicts-same, tally-same, heals-same}
 
--- The highest numbers are answered where all values are in range.
-pub in-range : {A : Type 0} (ok : Bool) (x m : A) → Some m ≡ cond ok (Some x) None → (ok ≡ true) × (m ≡ x)
-in-range true x m is = (refl, cc)
-in-range false x m is = (cc, cc)
-
--- No error: a pair at least, room for its verdicts, and all values in range.
-pub admitted : (n clean : ℕ) (fits within : Bool) → (n ≡ 0 → ⊥) → fits ≡ true → clean ≤ 1 → within ≡ true
-    → error (eqb n 0) true fits (leb clean 1 && within) ≡ None
-admitted n clean fits within some fit small in_range = grind (arith, some, fit, small, in_range)
+-- There is an answer where there is no error.
+pub answered : {A : Type 0} (e : Option JudgeError) (x m : A) → Ok m ≡ unless e x → (e ≡ None) × (m ≡ x)
+answered None x m is = (refl, cc)
+answered (Some e) x m is = (cc, cc)
 
 head-is : (vs : List PairVerdict) (v : PairVerdict) → slice_get vs 0 ≡ Some v → v ≡ volume_verdict vs
 head-is [] v is = cc
@@ -86,36 +81,49 @@ module _ {C : Type 0} (cell : PairVerdict → C) (read : C → PairVerdict) wher
   pub written-hold : ((v : PairVerdict) → read (cell v) ≡ v) → (cs : List C) (vs : List PairVerdict) → cs ≡ map cell vs → AllHold cs
   written-hold back cs vs is = rw (is, read-all cell read back vs)
 
+-- The passes by the two highest numbers are the definition's.
+module _ (ps : List Pair) (clean : Bool) {m : Maxima} {t : Tally} {volume : PairVerdict} {rules : StoreRules}
+    (m-is : m ≡ note_all no_maxima (slots ps))
+    (t-is : t ≡ tallies m true no_tally ps)
+    (volume-is : volume ≡ volume_verdict (verdicts_by m ps))
+    (rules-is : rules ≡ store_rules clean t volume) where
+  by_definition : verdicts_by m ps ≡ first_verdicts ps
+  by_definition = ap (λ (n : Maxima). verdicts_by n ps) m-is ∙ verdicts-same ps
+
+  tally : t ≡ first_tally ps (first_verdicts ps)
+  tally = t-is ∙ tally-same m ps ∙ ap (first_tally ps) by_definition
+
+  volume-first : volume ≡ volume_verdict (first_verdicts ps)
+  volume-first = volume-is ∙ ap volume_verdict by_definition
+
+  row-rules : rules ≡ row_rules ps clean
+  unfolding row_rules
+  row-rules = rules-is ∙ rw (tally, volume-first)
+
+  last-verdicts : last_verdicts rules.volume_demote rules.page_demote (verdicts_by m ps) ≡ verdicts ps clean
+  unfolding verdicts
+  last-verdicts = rw (by_definition, row-rules)
+
+  pub heal_judged : heals 0 None (last_verdicts rules.volume_demote rules.page_demote (verdicts_by m ps)) ≡ (judgement ps clean).heal
+  unfolding judgement
+  heal_judged = rw (heals-same, last-verdicts)
+
 module _ {C : Type 0} (cell : PairVerdict → C) (read : C → PairVerdict) (back : (v : PairVerdict) → read (cell v) ≡ v) where
   module _ (ps : List Pair) (clean : Bool) {m : Maxima} {t : Tally} {firsts lasts : List C} {volume : PairVerdict} {rules : StoreRules}
       (m-is : m ≡ note_all no_maxima (slots ps))
       (t-is : t ≡ tallies m true no_tally ps)
       (firsts-are : firsts ≡ map cell (verdicts_by m ps))
-      (volume-is : slice_get (map read firsts) 0 ≡ Some volume)
+      (volume-at : slice_get (map read firsts) 0 ≡ Some volume)
       (rules-is : rules ≡ store_rules clean t volume)
       (lasts-are : lasts ≡ map cell (last_verdicts rules.volume_demote rules.page_demote (map read firsts))) where
-    by_definition : verdicts_by m ps ≡ first_verdicts ps
-    by_definition = ap (λ (n : Maxima). verdicts_by n ps) m-is ∙ verdicts-same ps
+    first : map read firsts ≡ verdicts_by m ps
+    first = ap (map read) firsts-are ∙ read-all cell read back (verdicts_by m ps)
 
-    first : map read firsts ≡ first_verdicts ps
-    first = ap (map read) firsts-are ∙ read-all cell read back (verdicts_by m ps) ∙ by_definition
-
-    tally : t ≡ first_tally ps (first_verdicts ps)
-    tally = t-is ∙ tally-same m ps ∙ ap (first_tally ps) by_definition
-
-    volume-first : volume ≡ volume_verdict (first_verdicts ps)
-    volume-first = head-is (map read firsts) volume volume-is ∙ ap volume_verdict first
-
-    row-rules : rules ≡ row_rules ps clean
-    unfolding row_rules
-    row-rules = rules-is ∙ rw (tally, volume-first)
-
-    last-verdicts : last_verdicts rules.volume_demote rules.page_demote (map read firsts) ≡ verdicts ps clean
-    unfolding verdicts
-    last-verdicts = rw (first, row-rules)
+    volume-is : volume ≡ volume_verdict (verdicts_by m ps)
+    volume-is = head-is (map read firsts) volume volume-at ∙ ap volume_verdict first
 
     pub cells-judged : lasts ≡ map cell (verdicts ps clean)
-    cells-judged = lasts-are ∙ ap (map cell) last-verdicts
+    cells-judged = lasts-are ∙ rw (first, last-verdicts ps clean m-is t-is volume-is rules-is)
 
     pub row-judged : {h : Option (ℕ × SlotIndex)} {w : Bool} {last : PairVerdict}
         → h ≡ heals 0 None (last_verdicts rules.volume_demote rules.page_demote (map read firsts))
@@ -126,7 +134,17 @@ module _ {C : Type 0} (cell : PairVerdict → C) (read : C → PairVerdict) (bac
     row-judged {last = last} h-is last-is w-is =
         let judged : map read lasts ≡ verdicts ps clean = ap (map read) cells-judged ∙ read-all cell read back (verdicts ps clean) in
         let last-one = head-is (map read lasts) last last-is ∙ ap volume_verdict judged in
-        rw (w-is, h-is, heals-same, last-verdicts, last-one, volume-first, row-rules, tally)
+        rw (
+          w-is,
+          h-is,
+          heals-same,
+          first,
+          last-verdicts ps clean m-is t-is volume-is rules-is,
+          last-one,
+          volume-first ps clean m-is t-is volume-is rules-is,
+          row-rules ps clean m-is t-is volume-is rules-is,
+          tally ps clean m-is t-is volume-is rules-is,
+        )
 
 -- What is left of what was lent: what was done, or what was there where there is an error.
 pub left-after : {T D K : Type 0} (new done old : T) (e : Option JudgeError) (j : Judgement) (r : Result Judgement JudgeError)
@@ -139,10 +157,6 @@ left-after {K = K} new done old (Some e) j r is ok whole err same = let k : K = 
 pub all-true : {A : Type 0} (xs : List A) → list_all (λ (x : A). true) xs ≡ true
 all-true [] = refl
 all-true (x ∷ xs) = all-true xs
-
-pub map-same : {A : Type 0} (xs : List A) → map (λ (x : A). x) xs ≡ xs
-map-same [] = refl
-map-same (x ∷ xs) = rw (map-same xs)
 
 -- A flag is in range and read back.
 pub flag-back : (set : Bool) → (leb (mark set) 1 ≡ true) × (eqb (mark set) 1 ≡ set)

@@ -1,6 +1,7 @@
 -- The frames filled from a row of pairs stand for that row, so that the judge over them judges it: there is an error only for an empty row,
 -- another room than the verdicts need, and a mark out of range.
 use Rattle.std.proofs.Common.{◌≡◌, refl, sym, ap, ap₂, ◌∙◌, Bool, true, ◌&&◌, List, [], ◌∷◌, ◌++◌, ℕ, ◌*◌, arith, eqb, leb, length, map, length-append, take_at, drop_at, append-nil, Option, Some, None}
+use Rattle.std.proofs.Math.Bool.{and-true}
 use Rattle.std.specs.List.{list_all}
 use Rattle.std.specs.Simd.{first_chunks}
 use Rattle.codec.proofs.ReadLaws.{start, onward}
@@ -21,16 +22,16 @@ use Rattle.judge.proofs.FrameLaws.{same_test, whole}
 -- ---- a pair's frame
 
 module _ (f : Framed) (fits : Fits f) where
-  abbrev a : SlotPart
+  abbrev pub a : SlotPart
   a = filled f.rest_a (part_read f.pair.a)
 
-  abbrev b : SlotPart
+  abbrev pub b : SlotPart
   b = filled f.rest_b (part_read f.pair.b)
 
-  a-read : part_at (frame_of f) 0 ≡ a
+  pub a-read : part_at (frame_of f) 0 ≡ a
   a-read = part-read (frame_of f) (part_bytes b) 0 a (filled-fits _ _ fits.a fits.rest_a) (start _ _ refl)
 
-  b-read : part_at (frame_of f) 26 ≡ b
+  pub b-read : part_at (frame_of f) 26 ≡ b
   b-read =
       part-read (frame_of f) [] 26 b (filled-fits _ _ fits.b fits.rest_b)
       (onward 26 (part_bytes a) (part_bytes b ++ []) (length_part a) (start _ _ (ap (λ (t : List ℕ). part_bytes a ++ t) (sym (append-nil (part_bytes b))))))
@@ -72,42 +73,39 @@ length-pairs : (fs : List Framed) → length (pairs_of fs) ≡ length fs
 length-pairs [] = refl
 length-pairs (f ∷ fs) = simp (length-pairs fs)
 
-and-true : (x : Bool) → x && true ≡ x
-and-true x = grind arith
-
 -- ---- the judge over them
 
 -- The error of so many pairs.
 abbrev pub framed_error : List PairRead → ℕ → ℕ → Option JudgeError
 framed_error ps clean room = error (eqb (length ps) 0) true (eqb room (length ps * verdict_width)) (leb clean 1)
 
+count-is : (fs : List Framed) → pair_count (frames_of fs) ≡ length fs
+count-is fs = omega (arith, length-frames fs)
+
+pub frames-are : (fs : List Framed) → frames (frames_of fs) ≡ map frame_of fs
+frames-are fs = ap (λ (n : ℕ). first_chunks frame_width n (frames_of fs)) (count-is fs) ∙ chunked fs
+
+pub row-is : (fs : List Framed) → AllFit fs → row (frames_of fs) ≡ map pair_read (pairs_of fs)
+row-is fs fits = ap (map pair_from) (frames-are fs) ∙ read_all fs fits
+
 module _ (fs : List Framed) (fits : AllFit fs) where
-  count-is : pair_count (frames_of fs) ≡ length (pairs_of fs)
-  count-is = omega (arith, length-frames fs, length-pairs fs)
-
-  frames-are : frames (frames_of fs) ≡ map frame_of fs
-  frames-are = ap (λ (n : ℕ). first_chunks frame_width n (frames_of fs)) (count-is ∙ length-pairs fs) ∙ chunked fs
-
-  row-is : row (frames_of fs) ≡ map pair_read (pairs_of fs)
-  row-is = ap (map pair_from) frames-are ∙ read_all fs fits
-
   error-is : (clean room : ℕ) → frames_error (frames_of fs) clean room ≡ framed_error (pairs_of fs) clean room
   error-is clean room =
       whole (frames_of fs) clean room (omega (arith, length-frames fs))
-      ∙ ap₂ (λ (n : ℕ) (within : Bool). error (eqb n 0) true (eqb room (n * verdict_width)) within) count-is
-      (ap (λ x. leb clean 1 && x) (ap (list_all pair_in_range) frames-are ∙ all-in-range fs fits) ∙ and-true (leb clean 1))
+      ∙ ap₂ (λ (n : ℕ) (within : Bool). error (eqb n 0) true (eqb room (n * verdict_width)) within) (count-is fs ∙ sym (length-pairs fs))
+      (ap (λ x. leb clean 1 && x) (ap (list_all pair_in_range) (frames-are fs) ∙ all-in-range fs fits) ∙ and-true (leb clean 1))
 
   pub answer-is : (clean room : ℕ)
       → judge_frames (frames_of fs) clean room
       ≡ unless (framed_error (pairs_of fs) clean room) (judgement (map pair_read (pairs_of fs)) (eqb clean 1))
   unfolding judge_frames
-  answer-is clean room = rw (error-is clean room, row-is)
+  answer-is clean room = rw (error-is clean room, row-is fs fits)
 
   pub verdicts-are : (clean : ℕ) (out : List ℕ)
       → frames_left (frames_of fs) clean out
       ≡ left (framed_error (pairs_of fs) clean (length out)) (row_bytes (verdicts (map pair_read (pairs_of fs)) (eqb clean 1))) out
   unfolding frames_left
-  verdicts-are clean out = rw (error-is clean (length out), row-is)
+  verdicts-are clean out = rw (error-is clean (length out), row-is fs fits)
 
 -- ---- both judges
 

@@ -24,8 +24,8 @@ damaged_frame =
     ++ 7 ∷ replicate 25 0
 
 -- The number of the error of frames, a mark and room for the verdicts.
-abbrev pub refusal : List ℕ → ℕ → ℕ → Option ℕ
-refusal s clean room = option_map error_number (frames_error s clean room)
+abbrev pub refused_with : List ℕ → ℕ → ℕ → Option ℕ
+refused_with s clean room = option_map error_number (frames_error s clean room)
 
 pub record JudgeExamples : Type 0 where
   -- The page's slot B is in flight and healed; under a clean mark it is Damage, the page Unconfirmed.
@@ -38,10 +38,10 @@ pub record JudgeExamples : Type 0 where
   -- Beside damage a page is Unconfirmed.
   pub damaged_verdicts : frames_left (volume_frame ++ damaged_frame) 0 (replicate 8 0) ≡ 0 ∷ 1 ∷ 0 ∷ 1 ∷ 1 ∷ 1 ∷ 0 ∷ 4 ∷ []
   -- Errors in their order: no pair; part of a frame; no room for the verdicts; a mark, a code, a facts byte out of range. Then none.
-  pub no_pair : refusal [] 2 1 ≡ Some 8
-  pub not_frames : refusal (replicate 51 0xff) 2 1 ≡ Some 10
-  pub room_first : refusal (replicate 52 0xff) 2 1 ≡ Some 9
-  pub mark : refusal (replicate 52 0) 2 4 ≡ Some 10
-  pub code : refusal (13 ∷ replicate 51 0) 0 4 ≡ Some 10
-  pub facts : refusal (0 ∷ 3 ∷ replicate 50 0) 0 4 ≡ Some 10
-  pub none : refusal (replicate 52 0) 1 4 ≡ None
+  pub no_pair : refused_with [] 2 1 ≡ Some 8
+  pub not_frames : refused_with (replicate 51 0xff) 2 1 ≡ Some 10
+  pub room_first : refused_with (replicate 52 0xff) 2 1 ≡ Some 9
+  pub mark : refused_with (replicate 52 0) 2 4 ≡ Some 10
+  pub code : refused_with (13 ∷ replicate 51 0) 0 4 ≡ Some 10
+  pub facts : refused_with (0 ∷ 3 ∷ replicate 50 0) 0 4 ≡ Some 10
+  pub none : refused_with (replicate 52 0) 1 4 ≡ None

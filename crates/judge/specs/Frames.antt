@@ -3,13 +3,17 @@
 use Rattle.std.specs.Prelude.{Bool, ◌&&◌, List, [], ◌∷◌, ℕ, ◌*◌, ◌/◌, ◌%◌, ◌==◌, nat_le, length, get_or, map, flat_map, Option, Result}
 use Rattle.std.specs.List.{list_all}
 use Rattle.std.specs.Simd.{first_chunks}
+use Rattle.slot.specs.declared.slot.SlotIndex.{SlotIndex}
 use Rattle.judge.specs.declared.pairs.Pair.{Pair}
+use Rattle.judge.specs.declared.numbers.Maxima.{Maxima}
 use Rattle.judge.specs.declared.verdict.PairVerdict.{PairVerdict}
 use Rattle.judge.specs.declared.verdict.Judgement.{Judgement}
 use Rattle.judge.specs.declared.verdict.JudgeError.{JudgeError}
 use Rattle.judge.specs.Part.{part_width, part_at, part_shown, is_in_range}
 use Rattle.slot.specs.Numbers.{choice_number}
 use Rattle.judge.specs.Values.{standing_number, slot_verdict_number, standing_from, choice_from, slot_verdict_from}
+use Rattle.judge.specs.Numbers.{slots}
+use Rattle.judge.specs.Maxima.{no_maxima, note_all}
 use Rattle.judge.specs.Judge.{verdicts, judgement, error, unless, left}
 
 -- ---- a pair's frame
@@ -73,3 +77,16 @@ judge_frames s clean room = unless (frames_error s clean room) (judgement (row s
 -- and what it leaves in the lent verdicts.
 unfoldable pub frames_left : List ℕ → ℕ → List ℕ → List ℕ
 frames_left s clean out = left (frames_error s clean (length out)) (row_bytes (verdicts (row s) (clean == 1))) out
+
+-- ---- with no verdict kept
+
+-- The error, where there is room for the verdicts.
+abbrev pub refusal : List ℕ → ℕ → Option JudgeError
+refusal s clean = frames_error s clean (pair_count s * verdict_width)
+
+-- The two highest numbers, and the slot that is healed.
+abbrev pub frames_maxima : List ℕ → ℕ → Result Maxima JudgeError
+frames_maxima s clean = unless (refusal s clean) (note_all no_maxima (slots (row s)))
+
+abbrev pub frames_heal : List ℕ → ℕ → Result (Option (ℕ × SlotIndex)) JudgeError
+frames_heal s clean = unless (refusal s clean) (judgement (row s) (clean == 1)).heal

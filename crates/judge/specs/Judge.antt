@@ -144,9 +144,9 @@ error empty whole fits within =
     else None
 
 -- The answer,
-abbrev pub unless : Option JudgeError → Judgement → Result Judgement JudgeError
-unless None j = Ok j
-unless (Some e) j = Err e
+abbrev pub unless : {A : Type 0} → Option JudgeError → A → Result A JudgeError
+unless None answer = Ok answer
+unless (Some e) answer = Err e
 
 -- and what is left in what was lent: it is unchanged where there is an error.
 abbrev pub left : {T : Type 0} → Option JudgeError → T → T → T

@@ -1,8 +1,9 @@
 -- A slot's part of a frame (docs/FORMAT.md, "Frames"): what it is filled with, its bytes, what bytes stand for, and what it shows the judge.
-use Rattle.std.specs.Prelude.{Bool, ◌&&◌, ◌||◌, List, ◌∷◌, ◌++◌, ℕ, ◌+◌, ◌==◌, nat_le, if◌then◌else◌, get_or, Option, Some, None}
+use Rattle.std.specs.Prelude.{Bool, ◌&&◌, List, ◌∷◌, ◌++◌, ℕ, ◌+◌, ◌==◌, nat_le, if◌then◌else◌, get_or, Option, Some, None, is_some, unwrap_or, option_map}
 use Rattle.std.specs.Int.{w32, w64, to_le_bytes}
 use Rattle.codec.specs.Bytes.{le32, le64}
 use Rattle.slot.specs.Status.{code, info}
+use Rattle.slot.specs.Numbers.{status_of}
 use Rattle.slot.specs.declared.slot.SlotInfo.{SlotInfo}
 use Rattle.slot.specs.declared.slot.SlotStatus.{SlotStatus}
 use Rattle.slot.specs.declared.slot.NumberedHeader.{NumberedHeader}
@@ -24,6 +25,21 @@ version_of_info i =
       meta_seq = i.meta_seq;
       header_crc32c = i.header_crc32c;
       prev_header_crc32c = i.prev_header_crc32c;
+    }
+
+-- And back; what a version does not hold is zero.
+abbrev pub info_of : Version → SlotInfo
+info_of v =
+    record {
+      generation = v.generation;
+      owner_generation = 0;
+      header_crc32c = v.header_crc32c;
+      prev_header_crc32c = v.prev_header_crc32c;
+      ro_compat_flags = 0;
+      compat_flags = 0;
+      meta_seq = v.meta_seq;
+      payload_start = 0;
+      payload_len = 0;
     }
 
 abbrev pub version_of_header : ℕ → Option NumberedHeader → Version
@@ -83,16 +99,23 @@ part_at s at =
 
 -- ---- what it shows the judge
 
--- The status is at most 12 and the facts are at most 2.
-abbrev pub is_in_range : SlotPart → Bool
-is_in_range p = nat_le p.code 12 && nat_le p.facts 2
+-- The status that it has the number of; of a number that is no status's, none.
+abbrev pub part_status : SlotPart → Option SlotStatus
+part_status p = status_of p.code (info_of p.version)
 
--- Statuses: 2 Blank, 4 BadHeaderCrc, 5 UnsupportedVersion, 6 Incompatible, 11 BadPayloadCrc, 12 Valid.
+-- Its status's number is one, and the facts are at most 2.
+abbrev pub is_in_range : SlotPart → Bool
+is_in_range p = is_some (part_status p) && nat_le p.facts 2
+
+-- By the status, beside these facts and fields.
+abbrev pub shown_beside : ℕ → Version → SlotStatus → Shown
+shown_beside facts v (SlotStatus.Valid i) = Shown.Valid v
+shown_beside facts v SlotStatus.BadPayloadCrc = if facts == 2 then Shown.BadPayload v else Shown.Other
+shown_beside facts v SlotStatus.BadHeaderCrc = if nat_le 1 facts then Shown.BadHeader v.header_crc32c else Shown.Other
+shown_beside facts v SlotStatus.Blank = Shown.Blank
+shown_beside facts v (SlotStatus.UnsupportedVersion major) = Shown.Unsupported
+shown_beside facts v (SlotStatus.Incompatible flags) = Shown.Unsupported
+shown_beside facts v _ = Shown.Other
+
 abbrev pub part_shown : SlotPart → Shown
-part_shown p =
-    if p.code == 12 then Shown.Valid p.version
-    else if (p.code == 11) && (p.facts == 2) then Shown.BadPayload p.version
-    else if (p.code == 4) && nat_le 1 p.facts then Shown.BadHeader p.version.header_crc32c
-    else if p.code == 2 then Shown.Blank
-    else if (p.code == 5) || (p.code == 6) then Shown.Unsupported
-    else Shown.Other
+part_shown p = unwrap_or (option_map (shown_beside p.facts p.version) (part_status p)) Shown.Other

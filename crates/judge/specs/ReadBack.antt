@@ -4,36 +4,23 @@ use Rattle.slot.specs.declared.slot.SlotIndex.{SlotIndex}
 use Rattle.judge.specs.declared.verdict.SlotVerdict.{SlotVerdict}
 use Rattle.judge.specs.declared.verdict.Standing.{Standing}
 use Rattle.judge.specs.declared.verdict.PairVerdict.{PairVerdict}
-use Rattle.slot.specs.Status.{slot_number}
 use Rattle.slot.specs.Numbers.{choice_number}
 use Rattle.judge.specs.Values.{standing_number, standing_from, choice_from, slot_verdict_number, slot_verdict_from, heal_slot, heal_pair, heal_from, NumbersBack}
 use Rattle.judge.specs.Frames.{verdict_width, verdict_bytes, verdict_from, verdict_cells}
 
 standing-back : (s : Standing) → standing_from (standing_number s) ≡ s
-standing-back Standing.Confirmed = refl
-standing-back Standing.Unconfirmed = refl
-standing-back Standing.Lost = refl
-standing-back Standing.Refused = refl
+standing-back s = grind arith
 
 winner-back : (w : Option SlotIndex) → choice_from (choice_number w) ≡ w
-winner-back None = refl
-winner-back (Some SlotIndex.A) = refl
-winner-back (Some SlotIndex.B) = refl
+winner-back w = grind arith
 
 slot-back : (v : SlotVerdict) → slot_verdict_from (slot_verdict_number v) ≡ v
-slot-back SlotVerdict.Winner = refl
-slot-back SlotVerdict.Nothing = refl
-slot-back SlotVerdict.OlderDamaged = refl
-slot-back SlotVerdict.InFlight = refl
-slot-back SlotVerdict.Damage = refl
+slot-back v = grind arith
 
 heal-back : (h : Option (ℕ × SlotIndex)) → heal_from (heal_slot h) (heal_pair h) ≡ h
 heal-back None = refl
-heal-back (Some h) = go h.1
-  where
-    go : (index : SlotIndex) → heal_from (slot_number index) h.0 ≡ Some (h.0, index)
-    go SlotIndex.A = refl
-    go SlotIndex.B = refl
+heal-back (Some (k, SlotIndex.A)) = refl
+heal-back (Some (k, SlotIndex.B)) = refl
 
 pub numbers_back : NumbersBack
 numbers_back = record { standing = standing-back; choice = winner-back; slot = slot-back; heal = heal-back }

@@ -9,16 +9,18 @@
 // | 2, 3 | A, B: 0 Winner, 1 Nothing, 2 OlderDamaged, 3 InFlight, 4 Damage |
 ghost use Rattle.std.specs.Prelude.{◌≡◌, ◌*◌, ◌==◌, length};
 ghost use Rattle.judge.specs.Part.{part_width, part_at};
-ghost use Rattle.judge.specs.Frames.{verdict_width, verdict_bytes, verdict_from, verdict_cells, pair_from, pair_in_range, judge_frames, frames_left};
+ghost use Rattle.judge.specs.Frames.{verdict_width, verdict_bytes, verdict_from, verdict_cells, pair_from, pair_in_range, judge_frames, frames_left, frames_maxima, frames_heal};
 ghost use Rattle.judge.specs.Examples.{JudgeExamples};
 ghost use Rattle.judge.specs.Table.{Table};
 ghost use Rattle.judge.specs.ReadBack.{reads_back, cells_fit};
 
+use crate::numbers::Maxima;
 use crate::pairs::Pair;
 use crate::part::{PART, SlotPart};
 use crate::row::{ReadPair, Verdicts};
 use crate::verdict::{JudgeError, Judgement, PairVerdict, SlotVerdict, Standing, choice_from};
 use slot::numbers::choice_number;
+use slot::slot::SlotIndex;
 
 /// The width of a pair's frame,
 pub const FRAME: usize = 2 * PART;
@@ -27,7 +29,7 @@ pub const FRAME: usize = 2 * PART;
 pub const VERDICT: usize = 4;
 
 impl PairVerdict {
-    // The verdict in bytes.
+    // The verdict in bytes. A row of bytes, so that the layout is read here: a loop over the fields would be no plainer.
     pub fn bytes(self) -> [u8; VERDICT]
         ensures { result ≡ verdict_bytes self }
     {
@@ -40,12 +42,24 @@ impl PairVerdict {
     }
 }
 
-// Both parts of a pair's frame.
+// Both parts of a pair's frame,
 #[inline(always)]
 pub fn parts(frame: &[u8; FRAME]) -> (SlotPart, SlotPart)
     ensures { result ≡ (part_at frame.now 0, part_at frame.now part_width) }
 {
     (SlotPart::read(frame, 0), SlotPart::read(frame, PART))
+}
+
+// and what they show.
+#[inline(always)]
+pub fn shown(frame: &[u8; FRAME]) -> Pair
+    ensures { result ≡ pair_from frame.now }
+{
+    let (a, b) = parts(frame);
+    Pair {
+        a: a.shown(),
+        b: b.shown(),
+    }
 }
 
 impl ReadPair for [u8; FRAME] {
@@ -60,11 +74,7 @@ impl ReadPair for [u8; FRAME] {
 
     #[inline(always)]
     fn pair(&self) -> Pair {
-        let (a, b) = parts(self);
-        Pair {
-            a: a.shown(),
-            b: b.shown(),
-        }
+        shown(self)
     }
 }
 
@@ -111,6 +121,8 @@ impl Verdicts for VerdictBytes<'_> {
     ghost reads_back = { reads_back };
 }
 
+// Frames, mark and verdicts are three parameters, as in the Rust: a struct of them would be taken apart at once, no plainer.
+//
 // Judges every pair and writes its verdict. `clean` is the volume winner's clean mark, 0 or 1. Nothing is written where there is an error.
 pub fn judge(frames: &[u8], clean: u8, out: &mut [u8]) -> Result<Judgement, JudgeError>
     ensures value { result ≡ judge_frames frames.now clean (length out.old) }
@@ -126,8 +138,28 @@ pub fn judge(frames: &[u8], clean: u8, out: &mut [u8]) -> Result<Judgement, Judg
     answer
 }
 
+// The highest numbers of frames that the judge does not refuse.
+pub fn maxima(frames: &[u8], clean: u8) -> Result<Maxima, JudgeError>
+    ensures { result ≡ frames_maxima frames.now clean }
+{
+    let (pairs, rest) = frames.as_chunks::<FRAME>();
+    if !rest.is_empty() {
+        return Err(JudgeError::OutOfRange);
+    }
+    crate::row::admit(pairs, clean, true)
+}
+
+// The slot of such frames that the judge names for healing, and its pair.
+pub fn heal(frames: &[u8], clean: u8) -> Result<Option<(usize, SlotIndex)>, JudgeError>
+    ensures { result ≡ frames_heal frames.now clean }
+{
+    let m = maxima(frames, clean)?;
+    let (pairs, _) = frames.as_chunks::<FRAME>();
+    Ok(crate::row::heal(pairs, m, clean == 1))
+}
+
 // Does nothing: its contract is the examples, and the table of a frame's layout and of the numbers.
-#[tactic(auto, using(crate::proofs::JudgeExamples::judge_examples, crate::proofs::JudgeExamples::table))]
+#[tactic(auto, unfolding(codec::specs::Bytes::le, crate::specs::Judge::first_verdicts, crate::specs::Judge::first_tally, crate::specs::Judge::row_rules, crate::specs::Judge::verdicts, crate::specs::Judge::judgement, crate::specs::Frames::frames_error, crate::specs::Frames::judge_frames, crate::specs::Frames::frames_left, crate::specs::Part::part_bytes))]
 pub fn examples()
     ensures examples { JudgeExamples }
     ensures table { Table }

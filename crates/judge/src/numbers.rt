@@ -1,7 +1,7 @@
 // The highest numbers of a store, kept as its slots are gone through, and the rule that a candidate's number is held to: one more than the
 // highest of all other numbered slots.
 ghost use Rattle.std.specs.Prelude.{◌≡◌};
-ghost use Rattle.judge.specs.Maxima.{noted, qualifies_by};
+ghost use Rattle.judge.specs.Maxima.{noted, others_max, qualifies_by};
 
 use crate::pairs::{Pair, Shown};
 
@@ -16,10 +16,9 @@ impl Maxima {
     fn note(&mut self, slot: Shown)
         ensures { self.new ≡ noted self.old slot }
     {
-        if let Some(v) = slot.numbered() {
-            self.second = self.second.max(self.first.min(v));
-            self.first = self.first.max(v);
-        }
+        let v = slot.number();
+        self.second = self.second.max(self.first.min(v));
+        self.first = self.first.max(v);
     }
 
     pub fn note_pair(&mut self, pair: Pair)
@@ -29,6 +28,17 @@ impl Maxima {
         self.note(pair.b);
     }
 
+    // The highest number but for one slot that counts for `own`.
+    pub fn others(self, own: u64) -> u64
+        ensures { result ≡ others_max self own }
+    {
+        if own == self.first {
+            self.second
+        } else {
+            self.first
+        }
+    }
+
     // Whether a candidate of this number is one above all other slots', as far as its number is known.
     pub fn qualifies(self, seq: Option<u64>) -> bool
         ensures { result ≡ qualifies_by self seq }
@@ -36,11 +46,7 @@ impl Maxima {
         match seq {
             None => true,
             Some(v) => {
-                let others = if v == self.first {
-                    self.second
-                } else {
-                    self.first
-                };
+                let others = self.others(v);
                 v > others && v - others == 1
             }
         }

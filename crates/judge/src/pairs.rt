@@ -1,6 +1,8 @@
 // What a pair shows by itself: its winner, and the slot opposite the winner.
 ghost use Rattle.std.specs.Prelude.{◌≡◌};
 ghost use Rattle.judge.specs.Pairs.{numbered, opposite, pair_case, has_candidate};
+ghost use Rattle.judge.specs.Numbers.{number};
+ghost use Rattle.judge.specs.Verdict.{by_index};
 
 use slot::slot::SlotIndex;
 
@@ -28,7 +30,7 @@ pub enum Shown {
     Other,
 }
 
-// Both slots of one pair.
+// Both slots of one pair. Of its own beside `PairRead`, whose slots are as they were read: one type over both would be no plainer.
 #[derive(Clone, Copy)]
 pub struct Pair {
     pub a: Shown,
@@ -68,6 +70,13 @@ impl Shown {
         }
     }
 
+    // The same, 0 where there is none.
+    pub fn number(self) -> u64
+        ensures { result ≡ number (numbered self) }
+    {
+        self.numbered().unwrap_or(0)
+    }
+
     // What it is opposite the one valid slot, which is the winner's at `index`. Only B can be blank, and only beside a first write.
     fn opposite(self, index: SlotIndex, winner: Version) -> Opposite
         ensures { result ≡ opposite index winner self }
@@ -90,6 +99,16 @@ impl Shown {
 }
 
 impl Pair {
+    // The slot at an index.
+    pub fn slot(self, index: SlotIndex) -> Shown
+        ensures { result ≡ by_index index self.a self.b }
+    {
+        match index {
+            SlotIndex::A => self.a,
+            SlotIndex::B => self.b,
+        }
+    }
+
     // The winner, and what stands opposite it. Two valid slots of one generation are a fork.
     pub fn case(self) -> PairCase
         ensures { result ≡ pair_case self }

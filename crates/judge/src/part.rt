@@ -11,7 +11,7 @@
 //
 // Fields come from the Valid info under status 12, else from the facts; those not given are zero.
 ghost use Rattle.std.specs.Prelude.{◌≡◌, ◌+◌, ◌≤◌, length, take, drop};
-ghost use Rattle.judge.specs.Part.{part_width, version_of_info, version_of_facts, facts_number, part_of, part_bytes, part_at, part_shown, is_in_range};
+ghost use Rattle.judge.specs.Part.{part_width, version_of_info, info_of, version_of_facts, facts_number, part_of, part_bytes, part_at, part_status, part_shown, is_in_range};
 
 use crate::pairs::{Shown, Version};
 use slot::slot::{HeaderFacts, SlotInfo, SlotStatus};
@@ -40,6 +40,23 @@ impl Version {
         }
     }
 
+    // And back; what a version does not hold is 0.
+    pub fn info(self) -> SlotInfo
+        ensures { result ≡ info_of self }
+    {
+        SlotInfo {
+            generation: self.generation,
+            owner_generation: 0,
+            header_crc32c: self.header_crc32c,
+            prev_header_crc32c: self.prev_header_crc32c,
+            ro_compat_flags: 0,
+            compat_flags: 0,
+            meta_seq: self.meta_seq,
+            payload_start: 0,
+            payload_len: 0,
+        }
+    }
+
     // As far as a header shows it.
     pub fn of_facts(facts: Option<HeaderFacts>) -> Self
         ensures { result ≡ version_of_facts facts }
@@ -62,6 +79,7 @@ impl Version {
     }
 }
 
+// By a match: the facts are an option in an option, which has no number to cast.
 /// What a header shows: 0 nothing, 1 its stored checksum, 2 the fields of a numbered slot too.
 pub fn facts_number(facts: Option<HeaderFacts>) -> u8
     ensures { result ≡ facts_number facts }
@@ -99,7 +117,7 @@ impl SlotPart {
         }
     }
 
-    // The part as it stands in a frame,
+    // The part as it stands in a frame. A row of bytes, so that the layout is read here: a loop over the fields would be no plainer.
     #[tactic(auto, unfolding(crate::specs::Part::part_bytes))]
     pub fn bytes(self) -> [u8; PART]
         ensures { result ≡ part_bytes self }
@@ -115,7 +133,7 @@ impl SlotPart {
         ]
     }
 
-    // and read back from there.
+    // And read back from there, field by field, so that the layout is read here.
     #[tactic(auto, unfolding(codec::specs::Bytes::le))]
     pub(crate) fn read(frame: &[u8], at: usize) -> Self
         requires { at + part_width ≤ length frame.now }
@@ -133,23 +151,32 @@ impl SlotPart {
         }
     }
 
+    // The status that it has the number of; None where the number is no status's.
+    #[inline(always)]
+    pub fn status(self) -> Option<SlotStatus>
+        ensures { result ≡ part_status self }
+    {
+        SlotStatus::from_code(u32::from(self.code), self.version.info())
+    }
+
     // Whether status and facts are numbers of one.
     pub fn is_in_range(self) -> bool
         ensures { result ≡ is_in_range self }
     {
-        self.code <= 12 && self.facts <= 2
+        self.status().is_some() && self.facts <= 2
     }
 
     // What it tells the judge.
     pub fn shown(self) -> Shown
         ensures { result ≡ part_shown self }
     {
-        match (self.code, self.facts) {
-            (12, _) => Shown::Valid(self.version),
-            (11, 2) => Shown::BadPayload(self.version),
-            (4, 1..) => Shown::BadHeader(self.version.header_crc32c),
-            (2, _) => Shown::Blank,
-            (5 | 6, _) => Shown::Unsupported,
+        match (self.status(), self.facts) {
+            (Some(SlotStatus::Valid(_)), _) => Shown::Valid(self.version),
+            (Some(SlotStatus::BadPayloadCrc), 2) => Shown::BadPayload(self.version),
+            (Some(SlotStatus::BadHeaderCrc), 1..) => Shown::BadHeader(self.version.header_crc32c),
+            (Some(SlotStatus::Blank), _) => Shown::Blank,
+            (Some(SlotStatus::UnsupportedVersion { .. } | SlotStatus::Incompatible { .. }), _) =>
+                Shown::Unsupported,
             _ => Shown::Other,
         }
     }

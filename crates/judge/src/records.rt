@@ -16,7 +16,7 @@ pub struct SlotRead {
     pub facts: Option<HeaderFacts>,
 }
 
-// Both slots of one pair.
+// Both slots of one pair. Of its own beside `Pair`, whose slots are as the judge is told of them: one type over both would be no plainer.
 #[derive(Clone, Copy)]
 pub struct PairRead {
     pub a: SlotRead,

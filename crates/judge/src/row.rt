@@ -8,11 +8,11 @@ ghost use Rattle.judge.specs.declared.verdict.PairVerdict.{PairVerdict};
 ghost use Rattle.judge.specs.Maxima.{no_maxima, note_all};
 ghost use Rattle.judge.specs.Numbers.{slots};
 ghost use Rattle.judge.specs.Passes.{verdicts_by, no_tally, tallies, heals};
-ghost use Rattle.judge.specs.Judge.{last_verdicts, judgement, verdicts, error, unless};
+ghost use Rattle.judge.specs.Judge.{volume_verdict, last_verdicts, judgement, verdicts, error, unless};
 
 use crate::numbers::Maxima;
 use crate::pairs::Pair;
-use crate::verdict::{JudgeError, Judgement, PairVerdict, StoreRules, Tally};
+use crate::verdict::{JudgeError, Judgement, PairVerdict, Standing, StoreRules, Tally};
 use slot::slot::SlotIndex;
 
 // Both slots of one pair, in the form that a caller has.
@@ -109,6 +109,7 @@ fn second_pass<V: Verdicts>(
     ensures place { V.place out.new ≡ V.place out.old }
 {
     let mut heal = None;
+    // By index: with iter_mut the proof does not close, since it says nothing of what the slice ends as.
     for i in 0..pairs {
         let v = out.verdict(i);
         if v.in_flight() {
@@ -118,6 +119,25 @@ fn second_pass<V: Verdicts>(
         }
     }
     heal
+}
+
+// The refusals in their order, and the highest numbers where there is none. `room`: there is room for the verdicts.
+pub(crate) fn admit<P: ReadPair>(pairs: &[P], clean: u8, room: bool) -> Result<Maxima, JudgeError>
+    ensures { result ≡ unless (error (length pairs.now == 0) true room (nat_le clean 1 && list_all P.within pairs.now)) (note_all no_maxima (slots (map P.shown pairs.now))) }
+{
+    if pairs.is_empty() {
+        return Err(JudgeError::Empty);
+    }
+    if !room {
+        return Err(JudgeError::OutputLength);
+    }
+    if clean > 1 {
+        return Err(JudgeError::OutOfRange);
+    }
+    let Some(m) = maxima(pairs) else {
+        return Err(JudgeError::OutOfRange);
+    };
+    Ok(m)
 }
 
 // Judges every pair and writes its verdict. `clean` is the volume winner's clean mark, 0 or 1. Nothing is written where there is an error.
@@ -131,18 +151,7 @@ pub(crate) fn judge<P: ReadPair, V: Verdicts>(
     ensures kept { OnErr result (out.new ≡ out.old) }
     ensures place { V.place out.new ≡ V.place out.old }
 {
-    if pairs.is_empty() {
-        return Err(JudgeError::Empty);
-    }
-    if !out.fits(pairs.len()) {
-        return Err(JudgeError::OutputLength);
-    }
-    if clean > 1 {
-        return Err(JudgeError::OutOfRange);
-    }
-    let Some(m) = maxima(pairs) else {
-        return Err(JudgeError::OutOfRange);
-    };
+    let m = admit(pairs, clean, out.fits(pairs.len()))?;
     let tally = first_pass(pairs, m, out);
     let volume = out.verdict(0);
     let rules = tally.rules(clean == 1, volume);
@@ -154,4 +163,50 @@ pub(crate) fn judge<P: ReadPair, V: Verdicts>(
         clean: rules.clean,
         refused: tally.refused,
     })
+}
+
+// ---- with no verdict kept
+
+// What the first pass counts.
+fn tally<P: ReadPair>(pairs: &[P], m: Maxima) -> Tally
+    ensures { result ≡ tallies m true no_tally (map P.shown pairs.now) }
+{
+    let mut t = Tally::default();
+    for (i, p) in pairs.iter().enumerate() {
+        let case = p.pair().case();
+        t.count(i == 0, case, PairVerdict::first(m, case));
+    }
+    t
+}
+
+// The slot that is in flight after the second pass.
+fn in_flight<P: ReadPair>(pairs: &[P], m: Maxima, rules: StoreRules) -> Option<(usize, SlotIndex)>
+    ensures { result ≡ heals 0 None (last_verdicts rules.volume_demote rules.page_demote (verdicts_by m (map P.shown pairs.now))) }
+{
+    let mut heal = None;
+    for (i, p) in pairs.iter().enumerate() {
+        let v = PairVerdict::first(m, p.pair().case());
+        heal = v.demoted_if(rules.demotes(i == 0)).heal_or(i, heal);
+    }
+    heal
+}
+
+// The first verdict on the volume record.
+fn volume_verdict<P: ReadPair>(pairs: &[P], m: Maxima) -> PairVerdict
+    ensures { result ≡ volume_verdict (verdicts_by m (map P.shown pairs.now)) }
+{
+    match pairs {
+        [volume, ..] => PairVerdict::first(m, volume.pair().case()),
+        [] => PairVerdict::no_winner(Standing::Lost),
+    }
+}
+
+// The slot that the judge names for healing.
+#[tactic(auto, using(crate::proofs::RowLaws::heal_judged))]
+pub(crate) fn heal<P: ReadPair>(pairs: &[P], m: Maxima, clean: bool) -> Option<(usize, SlotIndex)>
+    requires { m ≡ note_all no_maxima (slots (map P.shown pairs.now)) }
+    ensures { result ≡ (judgement (map P.shown pairs.now) clean).heal }
+{
+    let rules = tally(pairs, m).rules(clean, volume_verdict(pairs, m));
+    in_flight(pairs, m, rules)
 }

@@ -92,14 +92,14 @@ pub struct Judgement {
 #[derive(Clone, Copy)]
 pub enum JudgeError {
     // No pair.
-    Empty,
+    Empty = 8,
     // Another number of verdicts than of pairs.
-    OutputLength,
+    OutputLength = 9,
     // No whole frames, or a value out of range.
-    OutOfRange,
+    OutOfRange = 10,
 }
 
-// ---- numbers
+// ---- numbers. The way back is a match, since a cast goes from a case to its number alone.
 
 impl SlotVerdict {
     // Its number,
@@ -176,11 +176,7 @@ impl JudgeError {
     pub fn number(self) -> u8
         ensures { result ≡ error_number self }
     {
-        match self {
-            JudgeError::Empty => 8,
-            JudgeError::OutputLength => 9,
-            JudgeError::OutOfRange => 10,
-        }
+        self as u8
     }
 }
 
@@ -200,7 +196,7 @@ impl Opposite {
 }
 
 impl PairVerdict {
-    fn no_winner(standing: Standing) -> Self
+    pub(crate) fn no_winner(standing: Standing) -> Self
         ensures { result ≡ no_winner standing }
     {
         PairVerdict {
@@ -252,7 +248,7 @@ impl PairVerdict {
 }
 
 impl Tally {
-    // One more pair; `volume`: it is the volume record.
+    // One more pair; `volume`: it is the volume record, which has a rule of its own. A closure for each would hold the same test.
     pub(crate) fn count(&mut self, volume: bool, case: PairCase, v: PairVerdict)
         requires { self.old.candidates < usize.MAX }
         ensures { self.new ≡ tallied self.old volume case v }
@@ -290,7 +286,8 @@ impl Tally {
 // ---- the second pass
 
 impl StoreRules {
-    // Whether a write in flight is demoted to damage; the volume record, which is the `first` pair, has a rule of its own.
+    // Whether a write in flight is demoted to damage; the volume record, which is the `first` pair, has a rule of its own. A closure for
+    // each would hold the same test.
     pub fn demotes(self, first: bool) -> bool
         ensures { result ≡ demotes self first }
     {

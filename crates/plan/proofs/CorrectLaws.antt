@@ -15,6 +15,7 @@ use Rattle.judge.specs.Numbers.{slots, highest}
 use Rattle.judge.specs.Verdict.{by_index}
 use Rattle.judge.specs.Frames.{row}
 use Rattle.judge.specs.Same.{AllFit, frame_of}
+use Rattle.judge.proofs.SameLaws.{row-is}
 use Rattle.judge.specs.declared.pairs.Pair.{Pair as ShownPair}
 use Rattle.cut.specs.Store.{Every, Pair, slot_at, report, framed_pair, framed, frames, SoundPair}
 use Rattle.cut.specs.Cut.{old, new, left, Accident}
@@ -30,7 +31,7 @@ use Rattle.plan.specs.Next.{fields_of, encoded, write_by, next_write as next_by}
 use Rattle.plan.specs.Promise.{NumberedPair, write_of, PlannedIsCorrect, SurvivesCuts}
 use Rattle.plan.proofs.PlanLaws.{plan_has, planned_frame, next_of_winner}
 use Rattle.plan.proofs.ReportLaws.{held_report, winner_held, followed_held}
-use Rattle.plan.proofs.FrameLaws.{frame_reports, row_is, frame_at, fits_at}
+use Rattle.plan.proofs.FrameLaws.{frame_reports, frame_at, fits_at}
 
 all_typed : {ps : List Pair} → Every NumberedPair ps → Every PairTyped ps
 all_typed Every.none = Every.none
@@ -62,7 +63,7 @@ planned_is_correct before p behind won plan owner compat payload buffer k number
       generation = has.generation ∙ ap (λ (x : ℕ × ℕ). x.0 + 1) follows;
       generation_fits = has.generation_fits;
       prev = has.prev ∙ ap (λ (x : ℕ × ℕ). x.1) follows;
-      number = has.number ∙ ap (λ (row : List ShownPair). highest (slots row) + 1) (row_is (framed ps) all_fit);
+      number = has.number ∙ ap (λ (row : List ShownPair). highest (slots row) + 1) (row-is (framed ps) all_fit);
       number_fits = has.number_fits;
       owner = owner_fits;
       compat = compat_fits;

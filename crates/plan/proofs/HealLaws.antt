@@ -4,13 +4,12 @@ use Rattle.std.proofs.lemmas.Option.{some_pair_parts, same_Some}
 use Rattle.slot.specs.declared.slot.SlotIndex.{SlotIndex}
 use Rattle.judge.specs.Numbers.{slots, highest_other}
 use Rattle.judge.specs.Judge.{judgement, unless}
-use Rattle.judge.specs.Frames.{verdict_width, pair_count, frames, row, frames_error, judge_frames}
+use Rattle.judge.specs.Frames.{verdict_width, pair_count, frames, row, frames_error, judge_frames, refusal}
 use Rattle.judge.specs.declared.verdict.JudgeError.{JudgeError}
 use Rattle.judge.specs.declared.verdict.Judgement.{Judgement}
 use Rattle.plan.specs.declared.error.PlanError.{PlanError}
 use Rattle.plan.specs.declared.write.Plan.{Plan}
 use Rattle.plan.specs.Error.{unless_refused}
-use Rattle.plan.specs.Numbers.{refusal}
 use Rattle.plan.specs.Pairs.{frame_report}
 use Rattle.plan.specs.Plan.{followed, plan_at, some_plan}
 use Rattle.plan.specs.Heal.{place, with_pair, heal_in, heal_for, plan_heal, HealsTheNamed}

@@ -1,13 +1,22 @@
--- The first of the two highest numbers is the highest number; of slots without one it is the highest of the others.
-use Rattle.std.proofs.Common.{◌≡◌, refl, sym, ap, ◌∙◌, List, [], ◌∷◌, ℕ, zero, suc, ◌+◌, ◌<◌, max, arith, eq-eqb, ne_eqb}
+-- The first of the two highest numbers is the highest number; and what they give beside a pair's slot is the highest number of the others.
+use Rattle.std.proofs.Common.{◌≡◌, sym, ◌∙◌, List, [], ◌∷◌, ℕ, ◌==◌, zero, suc, max, arith, map, slice_get, Option, Some, None, Result, Ok}
 use Rattle.slot.specs.declared.slot.SlotIndex.{SlotIndex}
 use Rattle.judge.specs.declared.pairs.Shown.{Shown}
-use Rattle.judge.specs.declared.pairs.Pair.{Pair}
 use Rattle.judge.specs.declared.numbers.Maxima.{Maxima}
 use Rattle.judge.specs.Pairs.{numbered}
 use Rattle.judge.specs.Numbers.{slots, number, highest, highest_other}
-use Rattle.judge.specs.Maxima.{no_maxima, noted, note_all}
-use Rattle.plan.specs.Heal.{place, pair_without, without}
+use Rattle.judge.specs.Maxima.{no_maxima, noted, note_all, others_max}
+use Rattle.judge.specs.Verdict.{by_index}
+use Rattle.judge.specs.Frames.{pair_from, frames, row, refusal, frames_maxima, frames_heal}
+use Rattle.judge.proofs.NumberLaws.{At, others-same}
+use Rattle.judge.specs.Judge.{judgement, unless}
+use Rattle.judge.specs.declared.verdict.JudgeError.{JudgeError}
+use Rattle.plan.specs.declared.error.PlanError.{PlanError}
+use Rattle.plan.specs.declared.write.Plan.{Plan}
+use Rattle.plan.specs.Error.{unless_refused}
+use Rattle.plan.specs.Pairs.{frame_report}
+use Rattle.plan.specs.Plan.{followed, plan_at}
+use Rattle.plan.specs.Heal.{place, with_pair, heal_for, plan_heal}
 
 first_of : (m : Maxima) (ss : List Shown) → (note_all m ss).first ≡ max m.first (highest ss)
 first_of m [] = omega arith
@@ -18,38 +27,39 @@ first_highest ss = first_of no_maxima ss ∙ omega arith
 
 -- ---- all slots but one
 
-none_other : (k : ℕ) → highest_other k [] ≡ 0
-none_other zero = refl
-none_other (suc k) = refl
-
 next_place : (j : ℕ) (index : SlotIndex) → place (suc j) index ≡ suc (suc (place j index))
 next_place j SlotIndex.A = omega arith
 next_place j SlotIndex.B = omega arith
 
--- Pairs that follow the kth keep their slots.
-past : (i k : ℕ) (index : SlotIndex) (ps : List Pair) → k < i → highest (slots (without i k index ps)) ≡ highest (slots ps)
-past i k index [] after = refl
-past i k index (p ∷ ps) after =
-    let rest = past (i + 1) k index ps (omega (arith, after)) in
-    rw (ne_eqb i k (λ is. omega (arith, is, after)), rest)
+-- The slot of a frame has its place among all slots.
+at_place : (k : ℕ) (index : SlotIndex) (f : List ℕ) (fs : List (List ℕ)) → slice_get fs k ≡ Some f
+    → At (place k index) (slots (map pair_from fs)) (by_index index (pair_from f).a (pair_from f).b)
+at_place k index f [] is = absurd cc
+at_place zero SlotIndex.A f (g ∷ fs) is = let same : g ≡ f = cc in rw same At.here
+at_place zero SlotIndex.B f (g ∷ fs) is = let same : g ≡ f = cc in rw same (At.there At.here)
+at_place (suc k) index f (g ∷ fs) is = rw (next_place k index) (At.there (At.there (at_place k index f fs is)))
 
-first_without : (index : SlotIndex) (p : Pair) (ss : List Shown)
-    → highest ((pair_without index p).a ∷ (pair_without index p).b ∷ ss) ≡ highest_other (place 0 index) (p.a ∷ p.b ∷ ss)
-first_without SlotIndex.A p ss = omega arith
-first_without SlotIndex.B p ss = omega arith
+pub others_highest : (k : ℕ) (index : SlotIndex) (f : List ℕ) (fs : List (List ℕ)) → slice_get fs k ≡ Some f
+    → others_max (note_all no_maxima (slots (map pair_from fs))) (number (numbered (by_index index (pair_from f).a (pair_from f).b)))
+    ≡ highest_other (place k index) (slots (map pair_from fs))
+others_highest k index f fs is = others-same _ _ _ (at_place k index f fs is)
 
-others_from : (i j k : ℕ) (index : SlotIndex) (ps : List Pair) → k ≡ i + j
-    → highest (slots (without i k index ps)) ≡ highest_other (place j index) (slots ps)
-others_from i j k index [] is = sym (none_other (place j index))
-others_from i zero k index (p ∷ ps) is =
-    let here : i ≡ k = omega (arith, is) in
-    let rest = past (i + 1) k index ps (omega (arith, is)) in
-    rw (eq-eqb i k here) (ap (λ (h : ℕ). max (number (numbered (pair_without index p).a)) (max (number (numbered (pair_without index p).b)) h)) rest
-    ∙ first_without index p (slots ps))
-others_from i (suc j) k index (p ∷ ps) is =
-    let rest = others_from (i + 1) j k index ps (omega (arith, is)) in
-    rw (ne_eqb i k (λ same. omega (arith, is, same)), next_place j index, rest)
+-- Over frames that are not refused, what is planned for the named slot is the plan of the frame f of its pair.
+pub heal_is : (s : List ℕ) (clean k : ℕ) (index : SlotIndex) (f : List ℕ) (m : Maxima) (answer : Result (Option (ℕ × Plan)) PlanError)
+    → Ok (Some (k, index)) ≡ frames_heal s clean → Ok m ≡ frames_maxima s clean → Some f ≡ slice_get (frames s) k
+    → answer ≡ with_pair k (plan_at index (followed (frame_report f)) (others_max m (number (numbered (by_index index (pair_from f).a (pair_from f).b)))))
+    → answer ≡ plan_heal s clean
+unfolding plan_heal
+heal_is s clean k index f m answer named known here answer_is = answer_is ∙ go (refusal s clean) named known
+  where
+    at : slice_get (frames s) k ≡ Some f
+    at = sym here
 
-pub others_highest : (k : ℕ) (index : SlotIndex) (ps : List Pair)
-    → (note_all no_maxima (slots (without 0 k index ps))).first ≡ highest_other (place k index) (slots ps)
-others_highest k index ps = first_highest (slots (without 0 k index ps)) ∙ others_from 0 k k index ps (omega arith)
+    go : (e : Option JudgeError) → Ok (Some (k, index)) ≡ unless e (judgement (row s) (clean == 1)).heal → Ok m ≡ unless e (note_all no_maxima (slots (row s)))
+        → with_pair k (plan_at index (followed (frame_report f)) (others_max m (number (numbered (by_index index (pair_from f).a (pair_from f).b)))))
+        ≡ unless_refused e (heal_for s (judgement (row s) (clean == 1)).heal)
+    go None heal_is m_is =
+        let same : (judgement (row s) (clean == 1)).heal ≡ Some (k, index) = cc in
+        let maxima : m ≡ note_all no_maxima (slots (row s)) = cc in
+        rw (same, at, maxima, others_highest k index f (frames s) at)
+    go (Some e) heal_is m_is = absurd cc

@@ -1,5 +1,5 @@
 -- What a plan has: the slot that `next_write` names, and one above the record before and above the highest number.
-use Rattle.std.proofs.Common.{◌≡◌, refl, sym, ap, subst, ◌∙◌, Bool, true, false, cond, List, ℕ, ◌+◌, ◌-◌, ◌^◌, ◌<◌, arith, ltb, ltb-true, slice_get, Option, Some, None, Result, Ok, Err}
+use Rattle.std.proofs.Common.{◌≡◌, refl, sym, ap, subst, ◌∙◌, Bool, true, false, cond, List, ℕ, ◌+◌, ◌-◌, ◌^◌, ◌<◌, arith, ltb, ltb-true, slice_get, Option, Some, None, Ok, Err}
 use Rattle.std.proofs.lemmas.Option.{some_pair_parts}
 use Rattle.slot.specs.Status.{other, info}
 use Rattle.slot.specs.declared.slot.SlotIndex.{SlotIndex}
@@ -8,31 +8,13 @@ use Rattle.pair.specs.Pair.{status, named, info_by, winner_info, next_by, next_w
 use Rattle.pair.specs.declared.pair.PairReport.{PairReport}
 use Rattle.pair.specs.declared.pair.Winner.{Winner}
 use Rattle.judge.specs.Numbers.{slots, highest}
-use Rattle.judge.specs.Frames.{frames, row}
+use Rattle.judge.specs.Frames.{frames, row, refusal}
 use Rattle.judge.specs.declared.verdict.JudgeError.{JudgeError}
 use Rattle.plan.specs.declared.error.PlanError.{PlanError}
 use Rattle.plan.specs.declared.write.Plan.{Plan}
 use Rattle.plan.specs.Error.{unless_refused}
-use Rattle.plan.specs.Numbers.{refusal}
 use Rattle.plan.specs.Pairs.{frame_report}
 use Rattle.plan.specs.Plan.{followed, some_plan, plan_next, plan_for, plan_write, NotTheWinner}
-
--- Over frames that are not refused the pair's plan is the plan of its frame, of which r is the report.
-pub plan_is : (s : List ℕ) (i : ℕ) (f : List ℕ) (most : ℕ) (fs : List (List ℕ)) (r : PairReport) (answer : Result (Option Plan) PlanError)
-    → Ok most ≡ unless_refused (refusal s 0) (Ok (highest (slots (row s)))) → fs ≡ frames s → slice_get fs i ≡ Some f
-    → r ≡ frame_report f → answer ≡ plan_next (next_write r) (followed r) most → answer ≡ plan_write s i
-unfolding plan_write
-plan_is s i f most fs r answer known fs_are here r_is answer_is =
-    answer_is ∙ ap (λ (x : PairReport). plan_next (next_write x) (followed x) most) r_is ∙ go (refusal s 0) known
-  where
-    at : slice_get (frames s) i ≡ Some f
-    at = ap (λ (l : List (List ℕ)). slice_get l i) (sym fs_are) ∙ here
-
-    go : (e : Option JudgeError) → Ok most ≡ unless_refused e (Ok (highest (slots (row s))))
-        → plan_next (next_write (frame_report f)) (followed (frame_report f)) most
-        ≡ unless_refused e (plan_for (slice_get (frames s) i) (highest (slots (row s))))
-    go None is = let same : most ≡ highest (slots (row s)) = cc in rw (at, same)
-    go (Some e) is = absurd cc
 
 pub planned_frame : (s f : List ℕ) (i : ℕ) (plan : Plan) → plan_write s i ≡ Ok (Some plan) → slice_get (frames s) i ≡ Some f
     → plan_next (next_write (frame_report f)) (followed (frame_report f)) (highest (slots (row s))) ≡ Ok (Some plan)

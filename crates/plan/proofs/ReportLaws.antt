@@ -9,10 +9,10 @@ use Rattle.slot.specs.declared.slot.HeaderFacts.{HeaderFacts}
 use Rattle.pair.specs.Pair.{refused, explains_survivor, plain, ordered, two_valid, none_valid, by_info, decide, status, named, info_by, winner_info}
 use Rattle.pair.specs.declared.pair.PairReport.{PairReport}
 use Rattle.pair.specs.declared.pair.Winner.{Winner}
-use Rattle.judge.specs.Part.{version_of_info, part_of}
+use Rattle.judge.specs.Part.{version_of_info, info_of, part_of}
 use Rattle.judge.specs.Same.{filled}
 use Rattle.judge.specs.declared.pairs.Version.{Version}
-use Rattle.plan.specs.Pairs.{info_of, part_status}
+use Rattle.plan.specs.Pairs.{status_or_unread}
 use Rattle.plan.specs.Plan.{followed}
 
 -- What a part holds of a Valid slot's facts, of a status and of a report.
@@ -29,7 +29,7 @@ abbrev pub held_report : PairReport → PairReport
 held_report r =
     record { a = held r.a; b = held r.b; winner = r.winner; generation_gap = r.generation_gap; chain_break = r.chain_break }
 
-pub part_holds : (rest : Version) (st : SlotStatus) (f : Option HeaderFacts) → part_status (filled rest (part_of st f)) ≡ held st
+pub part_holds : (rest : Version) (st : SlotStatus) (f : Option HeaderFacts) → status_or_unread (filled rest (part_of st f)) ≡ held st
 unfolding filled
 part_holds rest SlotStatus.ReadError f = refl
 part_holds rest SlotStatus.BadLength f = refl

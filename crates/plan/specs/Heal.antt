@@ -1,17 +1,14 @@
 -- The plan of the write that heals (docs/FORMAT.md, "What a correct write is").
-use Rattle.std.specs.Prelude.{◌≡◌, List, [], ◌∷◌, ℕ, ◌+◌, ◌*◌, ◌==◌, if◌then◌else◌, Option, Some, None, Result, Ok, Err, slice_get}
+use Rattle.std.specs.Prelude.{◌≡◌, List, ℕ, ◌+◌, ◌*◌, ◌==◌, Option, Some, None, Result, Ok, Err, slice_get}
 use Rattle.slot.specs.declared.slot.SlotIndex.{SlotIndex}
 use Rattle.judge.specs.Numbers.{slots, highest_other}
 use Rattle.judge.specs.Verdict.{by_index}
 use Rattle.judge.specs.Judge.{judgement}
-use Rattle.judge.specs.Frames.{verdict_width, pair_count, frames, row, judge_frames}
-use Rattle.judge.specs.declared.pairs.Shown.{Shown}
-use Rattle.judge.specs.declared.pairs.Pair.{Pair}
+use Rattle.judge.specs.Frames.{verdict_width, pair_count, frames, row, judge_frames, refusal}
 use Rattle.judge.specs.declared.verdict.Judgement.{Judgement}
 use Rattle.plan.specs.declared.error.PlanError.{PlanError}
 use Rattle.plan.specs.declared.write.Plan.{Plan}
 use Rattle.plan.specs.Error.{unless_refused}
-use Rattle.plan.specs.Numbers.{refusal}
 use Rattle.plan.specs.Pairs.{frame_report}
 use Rattle.plan.specs.Plan.{followed, plan_at}
 
@@ -44,14 +41,3 @@ pub record HealsTheNamed : Type 0 where
   pub none : (s : List ℕ) (clean : ℕ) (j : Judgement)
       → plan_heal s clean ≡ Ok None → judge_frames s clean (pair_count s * verdict_width) ≡ Ok j
       → j.heal ≡ None
-
--- ---- as the code counts: a slot of which nothing is seen counts for no number
-
-abbrev pub pair_without : SlotIndex → Pair → Pair
-pair_without SlotIndex.A p = record { a = Shown.Other; b = p.b }
-pair_without SlotIndex.B p = record { a = p.a; b = Shown.Other }
-
--- The kth of the pairs from the ith on.
-abbrev pub without : ℕ → ℕ → SlotIndex → List Pair → List Pair
-without i k index [] = []
-without i k index (p ∷ ps) = (if i == k then pair_without index p else p) ∷ without (i + 1) k index ps

@@ -1,20 +1,15 @@
 -- The numbers of the writes to come (docs/FORMAT.md, "What a correct write is").
-use Rattle.std.specs.Prelude.{◌≡◌, Bool, List, [], ◌∷◌, ℕ, ◌+◌, ◌*◌, ◌-◌, ◌^◌, nat_lt, max, map, if◌then◌else◌, Option, Some, None, Result, Ok, Err}
+use Rattle.std.specs.Prelude.{◌≡◌, Bool, List, [], ◌∷◌, ℕ, ◌+◌, ◌-◌, ◌^◌, nat_lt, max, map, if◌then◌else◌, Option, Some, None, Result, Ok, Err}
 use Rattle.slot.specs.declared.slot.SlotIndex.{SlotIndex}
 use Rattle.judge.specs.Pairs.{numbered, pair_case}
 use Rattle.judge.specs.Numbers.{slots, number, highest}
 use Rattle.judge.specs.Verdict.{by_index}
 use Rattle.judge.specs.Judge.{verdicts}
-use Rattle.judge.specs.Frames.{verdict_width, pair_count, row, frames_error}
+use Rattle.judge.specs.Frames.{row, refusal}
 use Rattle.judge.specs.declared.pairs.Pair.{Pair}
 use Rattle.judge.specs.declared.pairs.PairCase.{PairCase}
-use Rattle.judge.specs.declared.verdict.JudgeError.{JudgeError}
 use Rattle.plan.specs.declared.error.PlanError.{PlanError}
 use Rattle.plan.specs.Error.{unless_refused}
-
--- The judge's error, where there is room for its verdicts. Functions that are handed no mark ask with 0.
-abbrev pub refusal : List ℕ → ℕ → Option JudgeError
-refusal s clean = frames_error s clean (pair_count s * verdict_width)
 
 -- One above a number; none is above 2^64 - 1.
 abbrev pub after : ℕ → Result ℕ PlanError
@@ -43,7 +38,7 @@ highest_winner (p ∷ ps) = max (winner_number p) (highest_winner ps)
 abbrev pub WinnersOfVerdicts : Type 0
 WinnersOfVerdicts = (ps : List Pair) (clean : Bool) → map (λ v. v.winner) (verdicts ps clean) ≡ map (λ p. case_winner (pair_case p)) ps
 
--- ---- the numbers
+-- ---- the numbers; functions that are handed no mark ask with 0
 
 -- Of the next write: one above the highest of all numbered slots, 1 where there is none.
 unfoldable pub next_number : List ℕ → Result ℕ PlanError

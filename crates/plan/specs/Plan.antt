@@ -6,11 +6,10 @@ use Rattle.slot.specs.declared.slot.SlotInfo.{SlotInfo}
 use Rattle.pair.specs.Pair.{winner_info, next_write}
 use Rattle.pair.specs.declared.pair.PairReport.{PairReport}
 use Rattle.judge.specs.Numbers.{slots, highest}
-use Rattle.judge.specs.Frames.{frames, row}
+use Rattle.judge.specs.Frames.{frames, row, refusal}
 use Rattle.plan.specs.declared.error.PlanError.{PlanError}
 use Rattle.plan.specs.declared.write.Plan.{Plan}
 use Rattle.plan.specs.Error.{unless_refused}
-use Rattle.plan.specs.Numbers.{refusal}
 use Rattle.plan.specs.Pairs.{frame_report}
 
 -- The generation and the own checksum of the record that the write follows, the winner; of an Empty pair zeros.

@@ -1,5 +1,6 @@
 // Why nothing is planned.
 ghost use Rattle.std.specs.Prelude.{◌≡◌};
+ghost use Rattle.plan.specs.declared.error.PlanError.{PlanError};
 ghost use Rattle.plan.specs.Error.{error_number};
 
 use judge::verdict::JudgeError;
@@ -19,7 +20,7 @@ pub enum PlanError {
 }
 
 impl PlanError {
-    // Its number.
+    // Its number. By a match, since two of the cases have an error's number.
     pub fn number(self) -> u8
         ensures { result ≡ error_number self }
     {
@@ -29,5 +30,13 @@ impl PlanError {
             PlanError::UsedUp => 48,
             PlanError::Encode(error) => error.number(),
         }
+    }
+}
+
+impl From<JudgeError> for PlanError {
+    ghost from_gives = { λ error answer. answer ≡ PlanError.Frames error };
+
+    fn from(error: JudgeError) -> PlanError {
+        PlanError::Frames(error)
     }
 }

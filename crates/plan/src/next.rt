@@ -1,5 +1,6 @@
 // The next write of a pair, planned and encoded.
 ghost use Rattle.std.specs.Prelude.{◌≡◌};
+ghost use Rattle.judge.specs.Verdict.{by_index};
 ghost use Rattle.plan.specs.Next.{fields_of, next_write};
 ghost use Rattle.plan.specs.Promise.{SurvivesCuts};
 
@@ -8,10 +9,20 @@ use crate::write::{Plan, plan_write};
 use slot::encode::encode;
 use slot::slot::{Expect, FORMAT_2, SlotFields, SlotIndex};
 
-// What the planned write puts into the header of a slot that is read with `e`.
-fn fields_of(plan: Plan, e: &Expect, owner_generation: u64, compat_flags: u32) -> SlotFields
-    ensures { result ≡ fields_of plan e.now owner_generation compat_flags }
+// What the planned write puts into the header of its slot, where the pair's slots are read with `a` and `b`.
+fn fields_of(
+    plan: Plan,
+    a: &Expect,
+    b: &Expect,
+    owner_generation: u64,
+    compat_flags: u32,
+) -> SlotFields
+    ensures { result ≡ fields_of plan (by_index plan.index a.now b.now) owner_generation compat_flags }
 {
+    let e = match plan.index {
+        SlotIndex::A => a,
+        SlotIndex::B => b,
+    };
     SlotFields {
         volume_uuid: e.volume_uuid,
         object_id: e.object_id,
@@ -47,13 +58,9 @@ pub fn next_write(
     let Some(plan) = plan_write(frames, pair)? else {
         return Ok(None);
     };
-    let e = match plan.index {
-        SlotIndex::A => a,
-        SlotIndex::B => b,
-    };
     match encode(
         slot,
-        &fields_of(plan, e, owner_generation, compat_flags),
+        &fields_of(plan, a, b, owner_generation, compat_flags),
         payload,
     ) {
         Ok(crc) => Ok(Some((plan, crc))),

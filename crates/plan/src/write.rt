@@ -1,5 +1,6 @@
 // The plan of a pair's next write.
-ghost use Rattle.std.specs.Prelude.{◌≡◌};
+ghost use Rattle.std.specs.Prelude.{◌≡◌, slice_get, option_map};
+ghost use Rattle.judge.specs.Frames.{frames as frames_of};
 ghost use Rattle.pair.specs.Pair.{next_write};
 ghost use Rattle.plan.specs.Plan.{followed, plan_at, plan_next, plan_write};
 
@@ -44,14 +45,21 @@ fn plan_next(report: &PairReport, most: u64) -> Result<Option<Plan>, PlanError>
     Ok(Some(plan_at(index, report, most)?))
 }
 
+// The frame of the pair at `pair`.
+pub(crate) fn frame_at(frames: &[u8], pair: usize) -> Option<&[u8; FRAME]>
+    ensures { option_map (λ f. f.now) result ≡ slice_get (frames_of frames.now) pair }
+{
+    let (pairs, _) = frames.as_chunks::<FRAME>();
+    pairs.get(pair)
+}
+
 // Plans the next write of the pair at `pair`; None where the pair must not be written.
 #[tactic(auto, unfolding(crate::specs::Plan::plan_write))]
 pub fn plan_write(frames: &[u8], pair: usize) -> Result<Option<Plan>, PlanError>
     ensures { result ≡ plan_write frames.now pair }
 {
     let most = numbers::highest_number(frames)?;
-    let (pairs, _) = frames.as_chunks::<FRAME>();
-    let Some(frame) = pairs.get(pair) else {
+    let Some(frame) = frame_at(frames, pair) else {
         return Err(PlanError::NoPair);
     };
     plan_next(&frame::report(frame), most)

@@ -1,34 +1,16 @@
 -- What record a frame (docs/FORMAT.md, "Frames") stands for: the statuses by their numbers, the info of a Valid slot and the
 -- header's facts from the part's fields.
 use Rattle.std.specs.Prelude.{ℕ, List, ◌==◌, if◌then◌else◌, unwrap_or, Option, Some, None}
-use Rattle.slot.specs.Numbers.{status_of}
 use Rattle.slot.specs.declared.slot.HeaderFacts.{HeaderFacts}
-use Rattle.slot.specs.declared.slot.SlotInfo.{SlotInfo}
 use Rattle.slot.specs.declared.slot.SlotStatus.{SlotStatus}
-use Rattle.judge.specs.declared.pairs.Version.{Version}
 use Rattle.judge.specs.declared.part.SlotPart.{SlotPart}
 use Rattle.judge.specs.declared.records.SlotRead.{SlotRead}
 use Rattle.judge.specs.declared.records.PairRead.{PairRead}
-use Rattle.judge.specs.Part.{part_width, part_at}
-
--- What the judge does not look at is 0.
-abbrev pub info_of : Version → SlotInfo
-info_of v =
-    record {
-      generation = v.generation;
-      owner_generation = 0;
-      header_crc32c = v.header_crc32c;
-      prev_header_crc32c = v.prev_header_crc32c;
-      ro_compat_flags = 0;
-      compat_flags = 0;
-      meta_seq = v.meta_seq;
-      payload_start = 0;
-      payload_len = 0;
-    }
+use Rattle.judge.specs.Part.{part_width, part_at, part_status}
 
 -- A number that is no status stands for a slot that was not read.
 abbrev pub status_from : SlotPart → SlotStatus
-status_from p = unwrap_or (status_of p.code (info_of p.version)) SlotStatus.ReadError
+status_from p = unwrap_or (part_status p) SlotStatus.ReadError
 
 abbrev pub facts_from : SlotPart → Option HeaderFacts
 facts_from p =

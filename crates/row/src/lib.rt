@@ -3,44 +3,25 @@
 #![tactic(auto)]
 
 ghost use Rattle.std.specs.Prelude.{◌≡◌, length};
-ghost use Rattle.row.specs.Records.{info_of, status_from, facts_from, slot_of, pair_of};
+ghost use Rattle.row.specs.Records.{status_from, facts_from, slot_of, pair_of};
 ghost use Rattle.row.specs.Judged.{judge_row, verdicts_left, records_left, bytes_left};
 
 use judge::frames::{FRAME, VERDICT, parts};
-use judge::pairs::Version;
 use judge::part::SlotPart;
 use judge::records::{PairRead, SlotRead};
 use judge::verdict::{JudgeError, Judgement, PairVerdict};
-use slot::slot::{HeaderFacts, NumberedHeader, SlotInfo, SlotStatus};
+use slot::slot::{HeaderFacts, NumberedHeader, SlotStatus};
 
 // ---- the record of a frame
-
-// What the judge does not look at is 0.
-fn info_of(v: Version) -> SlotInfo
-    ensures { result ≡ info_of v }
-{
-    SlotInfo {
-        generation: v.generation,
-        owner_generation: 0,
-        header_crc32c: v.header_crc32c,
-        prev_header_crc32c: v.prev_header_crc32c,
-        ro_compat_flags: 0,
-        compat_flags: 0,
-        meta_seq: v.meta_seq,
-        payload_start: 0,
-        payload_len: 0,
-    }
-}
 
 // A number that is no status stands for a slot that was not read.
 fn status_from(part: SlotPart) -> SlotStatus
     ensures { result ≡ status_from part }
 {
-    SlotStatus::from_code(u32::from(part.code), info_of(part.version)).unwrap_or(
-        SlotStatus::ReadError,
-    )
+    part.status().unwrap_or(SlotStatus::ReadError)
 }
 
+// By a match, since facts are an option in an option, which no number can be cast to.
 fn facts_from(part: SlotPart) -> Option<HeaderFacts>
     ensures { result ≡ facts_from part }
 {
@@ -101,6 +82,7 @@ pub fn judge_row(
     if !rest.is_empty() || whole.len() > pairs.len() || room > verdicts.len() {
         return Err(JudgeError::OutOfRange);
     }
+    // By index: with iter_mut the proof does not close, since it says nothing of what the slice ends as.
     for (i, frame) in whole.iter().enumerate() {
         pairs[i] = pair_of(frame);
     }
@@ -117,6 +99,7 @@ pub fn put_verdicts(verdicts: &[PairVerdict], out: &mut [u8])
     if out.len() / VERDICT != verdicts.len() || out.len() % VERDICT != 0 {
         return;
     }
+    // By index: with chunks_mut the proof does not close, since it says nothing of what the slice ends as.
     for (i, v) in verdicts.iter().enumerate() {
         let at = i * VERDICT;
         out[at..at + VERDICT].copy_from_slice(&v.bytes());

@@ -2,7 +2,7 @@
 use Rattle.std.proofs.Common.{◌≡◌, ◌%◌, ◌*◌, arith, length, eq-eqb, refl}
 use Rattle.judge.specs.Frames.{frame_width, verdict_width, pair_count}
 use Rattle.judge.proofs.FrameLaws.{ragged, whole}
-use Rattle.plan.proofs.numbers.highest_numbers.Goals as goal
+use Rattle.judge.proofs.frames.maxima.Goals as goal
 
 pub returns-then-not-is_empty : goal.returns-then-not-is_empty
 returns-then-not-is_empty c =
@@ -14,4 +14,4 @@ returns c =
     let room = pair_count s * verdict_width in
     let frames : length s % frame_width ≡ 0 = grind (arith, c.as_chunks.ensures.back_len) in
     rw (whole s c.args.clean room frames, eq-eqb room room refl)
-    (rw (c.as_chunks.ensures.front_len, c.as_chunks.ensures.front) at c.row_numbers.ensures)
+    (rw (c.as_chunks.ensures.front_len, c.as_chunks.ensures.front) at c.admit.ensures)
