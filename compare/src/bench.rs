@@ -8,7 +8,7 @@ use crate::bench_slots;
 use crate::bytestep;
 use crate::crc32c::crc32c;
 use crate::ffi;
-use crate::reference::portable_append;
+use crate::portable;
 use crate::rng::Rng;
 use std::cell::Cell;
 use std::fs;
@@ -16,14 +16,14 @@ use std::hint::black_box;
 use std::process::ExitCode;
 use std::time::{Duration, Instant};
 
-const SIZES: [usize; 5] = [0, 8, 124, 4096, 65_536];
+const SIZES: [usize; 8] = [0, 8, 64, 124, 384, 1024, 4096, 65_536];
 const SAMPLES: usize = 31;
 const SAMPLE_TIME: Duration = Duration::from_millis(4);
 const SEED: u64 = 1;
 
 /// Names of contestants; the last two of each table are compared.
 pub const AS_IT_PICKS: &str = "Rust as it picks";
-pub const BYTE_A_STEP: &str = "Rust a byte a step";
+pub const PORTABLE: &str = "Rust portable";
 pub const OURS: &str = "ours";
 
 /// A function with inputs of some sizes, which each contestant computes.
@@ -47,8 +47,8 @@ const CHECKSUM: Table<Vec<u8>> = Table {
     input: random_bytes,
     contestants: &[
         Contestant { name: AS_IT_PICKS, call: |bytes| crc32c(bytes).into() },
-        Contestant { name: "Rust portable (slicing by 8)", call: |bytes| portable_append(0, bytes).into() },
-        Contestant { name: BYTE_A_STEP, call: |bytes| bytestep::crc32c(bytes).into() },
+        Contestant { name: "Rust a byte a step", call: |bytes| bytestep::crc32c(bytes).into() },
+        Contestant { name: PORTABLE, call: |bytes| portable::crc32c(bytes).into() },
         Contestant { name: OURS, call: |bytes| ffi::crc32c(cells(bytes)).into() },
     ],
 };

@@ -1,12 +1,12 @@
 //! What reads more than a slot's status: a slot's part of a frame, and a pair's winner with its payload, on slots with a full payload.
 
-use crate::bench::{cells, random_bytes, Contestant, Table, AS_IT_PICKS, BYTE_A_STEP, OURS};
-use crate::bench_slots::bytestep_expect;
-use crate::bytestep_pair;
-use crate::bytestep_slot;
+use crate::bench::{cells, random_bytes, Contestant, Table, AS_IT_PICKS, OURS, PORTABLE};
+use crate::bench_slots::portable_expect;
 use crate::ffi::{self, Version};
 use crate::ffi_pair::{self, Answered, PairIdentity};
 use crate::pair;
+use crate::portable_pair;
+use crate::portable_slot;
 use crate::rng::Rng;
 use crate::sample::HEADER;
 use crate::slot;
@@ -23,7 +23,7 @@ pub struct Input {
     b: Vec<u8>,
     at: PairIdentity,
     expect: [slot::Expect; 2],
-    bytestep_expect: [bytestep_slot::Expect; 2],
+    portable_expect: [portable_slot::Expect; 2],
 }
 
 pub const FRAME_SLOT: Table<Input> = Table {
@@ -33,7 +33,7 @@ pub const FRAME_SLOT: Table<Input> = Table {
     input: written,
     contestants: &[
         Contestant { name: AS_IT_PICKS, call: both },
-        Contestant { name: BYTE_A_STEP, call: bytestep_both },
+        Contestant { name: PORTABLE, call: portable_both },
         Contestant { name: OURS, call: our_part },
     ],
 };
@@ -45,7 +45,7 @@ pub const WINNER_PAYLOAD: Table<Input> = Table {
     input: written,
     contestants: &[
         Contestant { name: AS_IT_PICKS, call: payload },
-        Contestant { name: BYTE_A_STEP, call: bytestep_payload },
+        Contestant { name: PORTABLE, call: portable_payload },
         Contestant { name: OURS, call: our_payload },
     ],
 };
@@ -71,7 +71,7 @@ fn written(rng: &mut Rng, size: usize) -> Input {
     }
     let [a, b] = slots;
     let expect = [slot_reference::expect(&at.slot(0), NUMBERED), slot_reference::expect(&at.slot(1), NUMBERED)];
-    Input { a, b, at, bytestep_expect: [bytestep_expect(&expect[0]), bytestep_expect(&expect[1])], expect }
+    Input { a, b, at, portable_expect: [portable_expect(&expect[0]), portable_expect(&expect[1])], expect }
 }
 
 // Of a slot each contestant answers the header's checksum, of a pair where the payload of B lies, or 0.
@@ -87,11 +87,11 @@ fn both(input: &mut Input) -> u64 {
     }
 }
 
-fn bytestep_both(input: &mut Input) -> u64 {
-    let status = bytestep_slot::validate(&input.b, &input.bytestep_expect[1]);
-    let facts = bytestep_slot::header_facts(&input.b, &input.bytestep_expect[1]);
+fn portable_both(input: &mut Input) -> u64 {
+    let status = portable_slot::validate(&input.b, &input.portable_expect[1]);
+    let facts = portable_slot::header_facts(&input.b, &input.portable_expect[1]);
     match (status, facts) {
-        (bytestep_slot::SlotStatus::Valid(info), Some(facts)) if info.header_crc32c == facts.stored_header_crc32c => {
+        (portable_slot::SlotStatus::Valid(info), Some(facts)) if info.header_crc32c == facts.stored_header_crc32c => {
             info.header_crc32c.into()
         }
         _ => 0,
@@ -119,11 +119,11 @@ fn payload(input: &mut Input) -> u64 {
     }
 }
 
-fn bytestep_payload(input: &mut Input) -> u64 {
-    let [a, b] = &input.bytestep_expect;
-    let report = bytestep_pair::decide(bytestep_slot::validate(&input.a, a), bytestep_slot::validate(&input.b, b));
+fn portable_payload(input: &mut Input) -> u64 {
+    let [a, b] = &input.portable_expect;
+    let report = portable_pair::decide(portable_slot::validate(&input.a, a), portable_slot::validate(&input.b, b));
     match report.winner_info() {
-        Some((bytestep_slot::SlotIndex::B, info)) => place(&input.b, info.payload(&input.b)),
+        Some((portable_slot::SlotIndex::B, info)) => place(&input.b, info.payload(&input.b)),
         _ => 0,
     }
 }

@@ -1,8 +1,8 @@
 //! The slot functions to measure, on slots with a full payload.
 
-use crate::bench::{cells, random_bytes, Contestant, Table, AS_IT_PICKS, BYTE_A_STEP, OURS};
-use crate::bytestep_slot;
+use crate::bench::{cells, random_bytes, Contestant, Table, AS_IT_PICKS, OURS, PORTABLE};
 use crate::ffi::{self, Identity, Version};
+use crate::portable_slot;
 use crate::rng::Rng;
 use crate::sample::{random_identity, HEADER};
 use crate::slot;
@@ -24,8 +24,8 @@ pub struct Input {
     at: Identity,
     fields: slot::SlotFields,
     expect: slot::Expect,
-    bytestep_fields: bytestep_slot::SlotFields,
-    bytestep_expect: bytestep_slot::Expect,
+    portable_fields: portable_slot::SlotFields,
+    portable_expect: portable_slot::Expect,
 }
 
 pub const ENCODE: Table<Input> = Table {
@@ -35,7 +35,7 @@ pub const ENCODE: Table<Input> = Table {
     input: written,
     contestants: &[
         Contestant { name: AS_IT_PICKS, call: encode },
-        Contestant { name: BYTE_A_STEP, call: bytestep_encode },
+        Contestant { name: PORTABLE, call: portable_encode },
         Contestant { name: OURS, call: our_encode },
     ],
 };
@@ -47,7 +47,7 @@ pub const VALIDATE: Table<Input> = Table {
     input: written,
     contestants: &[
         Contestant { name: AS_IT_PICKS, call: validate },
-        Contestant { name: BYTE_A_STEP, call: bytestep_validate },
+        Contestant { name: PORTABLE, call: portable_validate },
         Contestant { name: OURS, call: our_validate },
     ],
 };
@@ -59,7 +59,7 @@ pub const HEADER_FACTS: Table<Input> = Table {
     input: written,
     contestants: &[
         Contestant { name: AS_IT_PICKS, call: header_facts },
-        Contestant { name: BYTE_A_STEP, call: bytestep_header_facts },
+        Contestant { name: PORTABLE, call: portable_header_facts },
         Contestant { name: OURS, call: our_header_facts },
     ],
 };
@@ -72,8 +72,8 @@ fn written(rng: &mut Rng, size: usize) -> Input {
         slot: vec![0; size],
         payload: random_bytes(rng, size - HEADER),
         at,
-        bytestep_fields: bytestep_fields(&fields),
-        bytestep_expect: bytestep_expect(&expect),
+        portable_fields: portable_fields(&fields),
+        portable_expect: portable_expect(&expect),
         fields,
         expect,
     };
@@ -81,14 +81,14 @@ fn written(rng: &mut Rng, size: usize) -> Input {
     input
 }
 
-fn bytestep_fields(fields: &slot::SlotFields) -> bytestep_slot::SlotFields {
-    bytestep_slot::SlotFields {
+fn portable_fields(fields: &slot::SlotFields) -> portable_slot::SlotFields {
+    portable_slot::SlotFields {
         volume_uuid: fields.volume_uuid,
         object_id: fields.object_id,
         generation: fields.generation,
         owner_generation: fields.owner_generation,
         slot_offset: fields.slot_offset,
-        slot_index: bytestep_index(fields.slot_index),
+        slot_index: portable_index(fields.slot_index),
         log2_slot_size: fields.log2_slot_size,
         prev_header_crc32c: fields.prev_header_crc32c,
         format_major: fields.format_major,
@@ -97,22 +97,22 @@ fn bytestep_fields(fields: &slot::SlotFields) -> bytestep_slot::SlotFields {
     }
 }
 
-pub fn bytestep_expect(expect: &slot::Expect) -> bytestep_slot::Expect {
-    bytestep_slot::Expect {
+pub fn portable_expect(expect: &slot::Expect) -> portable_slot::Expect {
+    portable_slot::Expect {
         volume_uuid: expect.volume_uuid,
         object_id: expect.object_id,
         slot_offset: expect.slot_offset,
-        slot_index: bytestep_index(expect.slot_index),
+        slot_index: portable_index(expect.slot_index),
         log2_slot_size: expect.log2_slot_size,
         format_major: expect.format_major,
         numbered: expect.numbered,
     }
 }
 
-fn bytestep_index(index: slot::SlotIndex) -> bytestep_slot::SlotIndex {
+fn portable_index(index: slot::SlotIndex) -> portable_slot::SlotIndex {
     match index {
-        slot::SlotIndex::A => bytestep_slot::SlotIndex::A,
-        slot::SlotIndex::B => bytestep_slot::SlotIndex::B,
+        slot::SlotIndex::A => portable_slot::SlotIndex::A,
+        slot::SlotIndex::B => portable_slot::SlotIndex::B,
     }
 }
 
@@ -126,8 +126,8 @@ fn encode(input: &mut Input) -> u64 {
     slot::encode(&mut input.slot, &input.fields, &input.payload).map_or(0, u64::from)
 }
 
-fn bytestep_encode(input: &mut Input) -> u64 {
-    bytestep_slot::encode(&mut input.slot, &input.bytestep_fields, &input.payload).map_or(0, u64::from)
+fn portable_encode(input: &mut Input) -> u64 {
+    portable_slot::encode(&mut input.slot, &input.portable_fields, &input.payload).map_or(0, u64::from)
 }
 
 fn our_encode(input: &mut Input) -> u64 {
@@ -143,9 +143,9 @@ fn validate(input: &mut Input) -> u64 {
     }
 }
 
-fn bytestep_validate(input: &mut Input) -> u64 {
-    match bytestep_slot::validate(&input.slot, &input.bytestep_expect) {
-        bytestep_slot::SlotStatus::Valid(info) => answer(info.generation, info.header_crc32c),
+fn portable_validate(input: &mut Input) -> u64 {
+    match portable_slot::validate(&input.slot, &input.portable_expect) {
+        portable_slot::SlotStatus::Valid(info) => answer(info.generation, info.header_crc32c),
         _ => 0,
     }
 }
@@ -166,9 +166,9 @@ fn header_facts(input: &mut Input) -> u64 {
     }
 }
 
-fn bytestep_header_facts(input: &mut Input) -> u64 {
-    match bytestep_slot::header_facts(&input.slot, &input.bytestep_expect) {
-        Some(bytestep_slot::HeaderFacts { stored_header_crc32c: stored, numbered: Some(header) }) => {
+fn portable_header_facts(input: &mut Input) -> u64 {
+    match portable_slot::header_facts(&input.slot, &input.portable_expect) {
+        Some(portable_slot::HeaderFacts { stored_header_crc32c: stored, numbered: Some(header) }) => {
             answer(header.generation, stored)
         }
         _ => 0,

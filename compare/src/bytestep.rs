@@ -1,4 +1,4 @@
-//! The checksum a byte a step, as ours computes it: for the benchmark only.
+//! The checksum a byte a step over one table: for the benchmark only.
 
 static TABLE: [u32; 256] = table();
 

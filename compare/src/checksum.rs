@@ -5,7 +5,7 @@ use crate::crc32c::{crc32c, crc32c_append};
 use crate::ffi;
 use crate::lent::Lent;
 use crate::part::{number, Checked, Fields, Part, Report, Run};
-use crate::reference::portable_append;
+use crate::portable;
 use crate::value::Value;
 
 const CRC32C: &str = "sio_crc32c";
@@ -161,7 +161,7 @@ fn gap(run: &mut Run, [head, zeros, tail]: [usize; 3]) -> Checked {
 
 fn compare_crc32c(run: &mut Run, bytes: &Lent) -> Checked {
     let found = ffi::crc32c(bytes.cells());
-    let expected = [("crc32c", crc32c(bytes.expected())), ("portable", portable_append(0, bytes.expected()))];
+    let expected = [("crc32c", crc32c(bytes.expected())), ("portable", portable::crc32c(bytes.expected()))];
     compare(run, CRC32C, found, &expected, &[("bytes", bytes)], Vec::new)
 }
 
@@ -171,7 +171,7 @@ fn compare_append(run: &mut Run, crc: u32, bytes: &Lent, whole: Option<u32>) -> 
     let appended = crc32c_append(crc, bytes.expected());
     let expected = [
         ("crc32c_append", appended),
-        ("portable", portable_append(crc, bytes.expected())),
+        ("portable", portable::crc32c_append(crc, bytes.expected())),
         ("crc32c of the joined bytes", whole.unwrap_or(appended)),
     ];
     compare(run, APPEND, found, &expected, &[("bytes", bytes)], || vec![("crc", number(crc))])
@@ -187,7 +187,7 @@ fn compare_gap(run: &mut Run, head: &Lent, zeros: usize, tail: &Lent) -> Checked
     let expected = [
         ("crc32c of the joined bytes", crc32c(&joined)),
         ("three appends", appended),
-        ("portable", portable_append(0, &joined)),
+        ("portable", portable::crc32c(&joined)),
     ];
     let lent = [("head", head), ("tail", tail)];
     compare(run, GAP, found, &expected, &lent, || vec![("zeros", number(zeros))])

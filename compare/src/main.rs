@@ -29,16 +29,16 @@ mod pair;
 #[rustfmt::skip]
 mod slot;
 
-/// The reference's slot.rs with the checksum of `bytestep`, made by compare/build.
-#[path = "../../target/compare/bytestep/slot.rs"]
+/// The reference's slot.rs with the checksum of `portable`, made by compare/build.
+#[path = "../../target/compare/portable/slot.rs"]
 #[allow(dead_code)]
 #[rustfmt::skip]
-mod bytestep_slot;
+mod portable_slot;
 /// The reference's pair.rs over that.
-#[path = "../../target/compare/bytestep/pair.rs"]
+#[path = "../../target/compare/portable/pair.rs"]
 #[allow(dead_code)]
 #[rustfmt::skip]
-mod bytestep_pair;
+mod portable_pair;
 
 mod bench;
 mod bench_judge;
@@ -87,6 +87,7 @@ mod part;
 mod places;
 mod plan_reference;
 mod planning;
+mod portable;
 mod program;
 mod reference;
 mod rng;

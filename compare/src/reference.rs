@@ -1,12 +1,6 @@
 //! What the Rust reference answers to one call of the reading and writing functions.
 
 use crate::codec::{CodecError, Reader, Writer};
-use crate::crc32c::portable;
-
-/// `crc32c_append` computed by the reference's portable implementation.
-pub fn portable_append(crc: u32, bytes: &[u8]) -> u32 {
-    !portable::update(!crc, bytes)
-}
 
 /// The answer to a read; `value` is there where it was not refused.
 pub struct Read<T> {
