@@ -42,22 +42,20 @@
  *
  * Stack. So many bytes a call takes at most, its arguments on the stack and the return address included:
  *
- *      64   sio_version sio_crc32c sio_crc32c_append sio_remaining sio_read_u8 sio_read_u16 sio_read_u32 sio_read_u64
- *           sio_read_bytes sio_read_array16 sio_read_array24 sio_write_u8 sio_write_u16 sio_write_u32 sio_write_u64
- *           sio_volume_decode sio_volume_base_decode sio_volume_base_encode sio_entries_per_page sio_table_end
+ *      64   sio_version sio_crc32c sio_crc32c_append sio_crc32c_gap sio_remaining sio_read_u8 sio_read_u16 sio_read_u32
+ *           sio_read_u64 sio_read_bytes sio_read_array16 sio_read_array24 sio_write_u8 sio_write_u16 sio_write_u32
+ *           sio_write_u64 sio_volume_decode sio_volume_base_decode sio_volume_base_encode sio_entries_per_page sio_table_end
  *           sio_check_file_len sio_decode_page sio_reserved_span
- *     128   sio_crc32c_gap sio_write_bytes sio_write_zeros sio_decide sio_next_number sio_heal_number sio_plan_write
- *           sio_volume_encode sio_encode_page sio_read_entry sio_write_entry
+ *     128   sio_write_bytes sio_write_zeros sio_decide sio_next_number sio_heal_number sio_plan_write sio_volume_encode
+ *           sio_encode_page sio_read_entry sio_write_entry
  *     192   sio_region_name
  *     256   sio_judge
  *     320   sio_encode sio_region_name_padded
  *     384   sio_plan_heal
  *     448   sio_header_facts sio_next_write sio_entry_name sio_entry_name_and_kind
- *     512   sio_frame_slot
- *     576   sio_validate
- *     640   sio_entry_to_raw
+ *     640   sio_validate sio_frame_slot sio_entry_to_raw
  *     704   sio_check_entry
- *     896   sio_winner_payload
+ *     960   sio_winner_payload
  *
  * Measured on x86-64 Linux by examples/stack.c: the stack below a call is filled with a byte, and the lowest byte that changes
  * is looked for; then 16 are added and the sum is rounded up to 64. Largest and smallest slots and pages take the same. No
@@ -68,7 +66,7 @@
  *
  * Time. A call takes as long as its buffers are, but for two. sio_decode_page compares every two entries: the 681 that a page
  * of 64 KiB holds take 0.1 ms, 65,535 take 7 s. max_entries bounds them. sio_crc32c_gap goes through its zeros: 2^32 of them
- * take 9 s. (Measured on the machine of docs/BENCHMARK.md.)
+ * take 2 s. (Measured on the machine of docs/BENCHMARK.md.)
  */
 #ifndef STORE_IO_H
 #define STORE_IO_H
