@@ -1,8 +1,7 @@
--- Lists of bytes: parts and joins of bytes are bytes, a number of a width is below its power, and lists that agree in front agree in what is
--- read there.
-use Rattle.std.proofs.Common.{◌≡◌, sym, ap, ◌∙◌, List, [], ◌∷◌, ◌++◌, ℕ, zero, suc, ◌+◌, ◌≤◌, lit<, take, drop, replicate, take-take, get_or-drop}
+-- Lists of bytes: parts and joins of bytes and what is written of a number are bytes, and lists that agree in front agree in what is read there.
+use Rattle.std.proofs.Common.{◌≡◌, sym, ap, ◌∙◌, List, [], ◌∷◌, ◌++◌, ℕ, zero, suc, ◌+◌, ◌≤◌, arith, lit<, take, drop, replicate, take-take, get_or-drop}
 use Rattle.std.proofs.lemmas.List.{drop-take}
-use Rattle.std.specs.Int.{Width, byte_len, from_le_bytes}
+use Rattle.std.specs.Int.{Width, byte_len, from_le_bytes, bytes_low_first}
 use Rattle.codec.specs.Bytes.{AllBytes, le}
 
 pub take-bytes : (n : ℕ) (s : List ℕ) → AllBytes s → AllBytes (take n s)
@@ -23,6 +22,12 @@ pub zero-bytes : (n : ℕ) → AllBytes (replicate n 0)
 zero-bytes zero i = lit< tt
 zero-bytes (suc n) zero = lit< tt
 zero-bytes (suc n) (suc i) = zero-bytes n i
+
+pub number_bytes : (i k n : ℕ) → AllBytes (bytes_low_first i k n)
+number_bytes i zero n j = lit< tt
+number_bytes zero (suc k) n zero = omega arith
+number_bytes (suc i) (suc k) n zero = omega arith
+number_bytes i (suc k) n (suc j) = number_bytes (suc i) k n j
 
 -- Lists that agree in their first m bytes agree in what is read of them there.
 module _ (m : ℕ) (s t : List ℕ) (agree : take m s ≡ take m t) where

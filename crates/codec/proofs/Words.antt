@@ -1,26 +1,20 @@
 -- Eight bytes at once: their number is added to the register and 64 steps of the division are made, which go byte by byte over the tables.
-use Rattle.std.proofs.Common.{◌≡◌, refl, sym, ap, ap₂, ◌∙◌, List, [], ◌∷◌, ℕ, zero, suc, ◌+◌, ◌*◌, ◌^◌, ◌<◌, lit<, arith, le_of_suc-le-suc, not-suc-le-zero, replicate, length, get_or, take, drop, take-append-drop, drop-drop, bit_xor}
+use Rattle.std.proofs.Common.{◌≡◌, refl, sym, ap, ap₂, ◌∙◌, List, [], ◌∷◌, ℕ, zero, suc, ◌+◌, ◌*◌, ◌^◌, ◌<◌, arith, le_of_suc-le-suc, not-suc-le-zero, replicate, length, get_or, take, drop, take-append-drop, drop-drop, bit_xor}
 use Rattle.std.proofs.lemmas.List.{replicate-append-replicate}
 use Rattle.std.specs.Int.Bits.{xor_assoc}
 use lib.Bits.{xor_comm, xor_zero_r}
-use Rattle.std.specs.Int.{w64, to_le_bytes, bytes_low_first}
+use Rattle.std.specs.Int.{w64, to_le_bytes}
 use Rattle.std.specs.Simd.{first_chunks}
-use Rattle.codec.specs.Bytes.{AllBytes}
 use Rattle.codec.specs.Register.{bit_steps, byte_step, register}
+use Rattle.codec.proofs.ByteLaws.{number_bytes}
 use Rattle.codec.proofs.Message.{message-le64}
 use Rattle.codec.proofs.ShiftRegister.{bit_steps-xor, bit_steps-add, register-append, bitRegister, bitRegister-bits, register-bits}
 
 -- ---- eight bytes
 
-number-bytes : (w i v : ℕ) → AllBytes (bytes_low_first i w v)
-number-bytes zero i v k = lit< tt
-number-bytes (suc w) zero v zero = omega arith
-number-bytes (suc w) (suc i) v zero = omega arith
-number-bytes (suc w) i v (suc k) = number-bytes w (suc i) v k
-
 pub register-le64 : (r v : ℕ) → v < 2 ^ 64 → register r (to_le_bytes w64 v) ≡ bit_steps 64 (bit_xor r v)
 register-le64 r v fits =
-    register-bits r (to_le_bytes w64 v) (number-bytes 8 0 v) ∙ ap (bitRegister r) (message-le64 v) ∙ bitRegister-bits 64 r v fits
+    register-bits r (to_le_bytes w64 v) (number_bytes 0 8 v) ∙ ap (bitRegister r) (message-le64 v) ∙ bitRegister-bits 64 r v fits
 
 -- What the bytes add to the register: each what the steps of itself and of those after it make of it.
 abbrev pub parts : List ℕ → ℕ

@@ -1,10 +1,9 @@
 -- What `encode` writes is bytes, and a number that is read from bytes is below the power of its width.
 use Rattle.std.proofs.Common.{◌≡◌, refl, List, [], ◌∷◌, ◌++◌, ℕ, zero, suc, ◌-◌, ◌^◌, ◌<◌, nat_lt, ltb-true, arith, length, drop, replicate, lit<, true}
 use Rattle.std.specs.List.{concat, list_all}
-use Rattle.std.specs.Int.{bytes_low_first}
 use Rattle.codec.specs.Bytes.{AllBytes, le, le32, le64}
 use Rattle.codec.specs.Crc32c.{crc32c}
-use Rattle.codec.proofs.ByteLaws.{take-bytes, drop-bytes, append-bytes, zero-bytes}
+use Rattle.codec.proofs.ByteLaws.{take-bytes, drop-bytes, append-bytes, zero-bytes, number_bytes}
 use Rattle.slot.specs.Status.{index_number}
 use Rattle.slot.specs.Header.{magic}
 use Rattle.slot.specs.Write.{header_row, header_bytes, header_crc, written_header, slot_bytes}
@@ -17,12 +16,6 @@ pub bytes_tested : (s : List ℕ) → list_all (λ b. nat_lt b 256) s ≡ true �
 bytes_tested [] test i = lit< tt
 bytes_tested (x ∷ s) test zero = ltb-true x 256 (both _ _ test).0
 bytes_tested (x ∷ s) test (suc i) = bytes_tested s (both _ _ test).1 i
-
-pub number_bytes : (i k n : ℕ) → AllBytes (bytes_low_first i k n)
-number_bytes i zero n j = lit< tt
-number_bytes zero (suc k) n zero = omega arith
-number_bytes (suc i) (suc k) n zero = omega arith
-number_bytes i (suc k) n (suc j) = number_bytes (suc i) k n j
 
 -- Each piece of a row is bytes.
 abbrev pub RowBytes : List (List ℕ) → Type 0

@@ -4,7 +4,7 @@ use borrow.Author.Tests.{not-true}
 use lib.Pointwise.{pointwise, bytes_decides}
 use Rattle.codec.specs.Bytes.{AllBytes, le, le16, le32}
 use Rattle.codec.specs.Crc32c.{crc32c, final_remainder, remainder, digest, reversed}
-use Rattle.codec.proofs.ByteLaws.{append-bytes, zero-bytes}
+use Rattle.codec.proofs.ByteLaws.{append-bytes, zero-bytes, number_bytes}
 use Rattle.slot.specs.Status.{index_number, other}
 use Rattle.slot.specs.Payload.{payload as payload_of}
 use Rattle.slot.specs.Read.{header_sum, is_slot_length, number_ok, validate}
@@ -27,7 +27,7 @@ use Rattle.cut.specs.Store.{Every, Decoder, Volume, Page, accepts, clean_mark, P
 use Rattle.cut.specs.Cut.{Write, store, size, old, new, cut, CutPoint, CorrectWrite, stands_whole, whole, payload_in, Accident, handed}
 use Rattle.cut_examples.specs.Stores.{volume_record, page_record, rest, fields, read_with, written_slot, blank_slot, volume_fields, volume_pair, older_fields, newer_fields, first_page, second_fields, second_page, new_fields, later_page, first_store, later_store}
 use Rattle.cut_examples.specs.Writes.{IsMet, StoresSound, MetIsEnough, write_to, page_write, marked_fields, volume_write, next_fields, second_write, later_fields, later_write, PageMet, VolumeMet, SecondMet, LaterMet, StandsWhole, MarkHanded}
-use Rattle.cut.proofs.ByteLaws.{bytes_tested, number_bytes, row_bytes, slot_all_bytes}
+use Rattle.cut.proofs.ByteLaws.{bytes_tested, row_bytes, slot_all_bytes}
 use Rattle.cut.proofs.StatusLaws.{false_true}
 use Rattle.cut.proofs.PairLaws.{valid_number, blank_number, sound_won}
 use Rattle.cut.proofs.CutLaws.{differ, failed_sum, failed_payload}
