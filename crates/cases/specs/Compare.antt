@@ -1,4 +1,4 @@
--- Whether an answer is the one expected.
+-- Whether an answer is the one expected. Lists of cases are no part of the format: crates/cases/src/lib.rt says what they are.
 use Rattle.std.specs.Prelude.{if◌then◌else◌, nat_eq, List, ℕ, Result, Ok, Err}
 use lib.Pointwise.{pointwise}
 use Rattle.cases.specs.declared.replay.Fault.{Fault}

@@ -1,3 +1,5 @@
+-- What stands in a line of a list of cases, as crates/cases/src/lib.rt has it.
+--
 -- The fields of a line: the name up to the first space, the input up to the second, and after it what is expected.
 use Rattle.std.specs.Prelude.{if◌then◌else◌, ◌==◌, List, [], ◌∷◌, ℕ, Option, Some, None}
 use Rattle.std.specs.List.{list_all}

@@ -3,6 +3,8 @@ ghost use Rattle.std.specs.Prelude.{◌≡◌, ◌≤◌, min, MatchOption};
 ghost use Rattle.std.specs.Int.{w8, w16, w32, w64};
 ghost use Rattle.cases.specs.Input.{first};
 
+// Written out by width: one generic over a trait of numbers would have its type named at each call, no plainer than `first_u32(input)`.
+
 /// The first byte, and what is after it.
 pub fn first_u8(input: &[u8]) -> Option<(u8, &[u8])>
     ensures { MatchOption result (first w8 input.now ≡ None) (λ f. first w8 input.now ≡ Some (f.0, f.1.now)) }

@@ -46,8 +46,10 @@ pub trait Table {
     /// The names, in the order in which the cases are counted.
     const NAMES: &'static [&'static str];
 
-    /// Packs the answer of the function at this place in the names. There is none where the input is shorter than its arguments.
-    fn answer(place: usize, input: &[u8], answer: &mut Bytes) -> Option<()>;
+    // Each table goes by a `match` on the name: a function pointer that is called wants a `requires` where it comes in, and no public function
+    // has one. Input and answer go side by side: a struct of both would be made for this call alone.
+    /// Packs the answer of the function of this name. There is none where the input is shorter than its arguments.
+    fn answer(name: &[u8], input: &[u8], answer: &mut Bytes) -> Option<()>;
 
     /// Replays the list that `input` has, and says so.
     final fn run<R: Read + Drop, W: Write>(
@@ -100,7 +102,7 @@ pub trait Table {
             return Err(Fault::Unreadable);
         };
         let mut answer = Bytes::new();
-        let Some(()) = Self::answer(place, &input, &mut answer) else {
+        let Some(()) = Self::answer(name, &input, &mut answer) else {
             return Err(Fault::Unreadable);
         };
         compare(&answer, &expected)?;

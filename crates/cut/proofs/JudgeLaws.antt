@@ -61,6 +61,7 @@ settled_none : (index : SlotIndex) (i : ℕ) → pair_heal i (settled_verdict in
 settled_none SlotIndex.A i = refl
 settled_none SlotIndex.B i = refl
 
+-- The library has none.
 or_none : (h : Option (ℕ × SlotIndex)) → option_or h None ≡ h
 or_none None = refl
 or_none (Some at) = refl

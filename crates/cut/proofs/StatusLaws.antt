@@ -15,6 +15,7 @@ use Rattle.slot.proofs.HeaderLaws.{header_there}
 use Rattle.slot.proofs.StatusLaws.{is_failure, Checked, checked}
 use Rattle.cut.specs.Cut.{header_passes}
 
+-- The library has none of `false_true` and, for `≡ false`, of `neither`.
 pub false_true : {A : Type 0} {test : Bool} → test ≡ false → test ≡ true → A
 false_true no_test test = absurd cc
 

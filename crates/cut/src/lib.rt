@@ -44,6 +44,7 @@ pub fn handed_mark()
 {}
 
 // What is no accident.
+#[tactic(auto, using(crate::proofs::CutLaws::failed_payload))]
 pub fn no_accident()
     ensures header { FailedSum }
     ensures payload { FailedPayload }
@@ -63,6 +64,7 @@ pub fn one_record()
 {}
 
 // What the theorem calls read back is what `winner_payload` hands out: its part is the record of every pair with these slots.
+#[tactic(auto, using(crate::proofs::StatementLaws::handed_back))]
 pub fn read_back<'a>(
     a: &'a [u8],
     expect_a: &Expect,

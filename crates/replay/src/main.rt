@@ -37,24 +37,24 @@ impl Table for Codec {
         "wu8", "wby", "wze",
     ];
 
-    fn answer(place: usize, input: &[u8], answer: &mut Bytes) -> Option<()> {
-        match place {
-            0 => crc(input, answer),
-            1 => app(input, answer),
-            2 => gap(input, answer),
-            3 => ru1(input, answer),
-            4 => ru2(input, answer),
-            5 => ru4(input, answer),
-            6 => ru8(input, answer),
-            7 => run(input, answer),
-            8 => a16(input, answer),
-            9 => a24(input, answer),
-            10 => wu1(input, answer),
-            11 => wu2(input, answer),
-            12 => wu4(input, answer),
-            13 => wu8(input, answer),
-            14 => wby(input, answer),
-            15 => wze(input, answer),
+    fn answer(name: &[u8], input: &[u8], answer: &mut Bytes) -> Option<()> {
+        match name {
+            b"crc" => crc(input, answer),
+            b"app" => app(input, answer),
+            b"gap" => gap(input, answer),
+            b"ru1" => ru1(input, answer),
+            b"ru2" => ru2(input, answer),
+            b"ru4" => ru4(input, answer),
+            b"ru8" => ru8(input, answer),
+            b"run" => run(input, answer),
+            b"a16" => a16(input, answer),
+            b"a24" => a24(input, answer),
+            b"wu1" => wu1(input, answer),
+            b"wu2" => wu2(input, answer),
+            b"wu4" => wu4(input, answer),
+            b"wu8" => wu8(input, answer),
+            b"wby" => wby(input, answer),
+            b"wze" => wze(input, answer),
             _ => None,
         }
     }
@@ -81,6 +81,8 @@ fn gap(input: &[u8], answer: &mut Bytes) -> Option<()> {
 }
 
 // ---- reads
+
+// A function for each that C calls, here and among the writes: an exported function has one type, and so has what calls it.
 
 fn ru1(input: &[u8], answer: &mut Bytes) -> Option<()> {
     let (mut position, buffer) = first_size(input)?;

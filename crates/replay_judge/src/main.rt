@@ -40,11 +40,11 @@ fn main(rt: HostRuntime) -> io::Result<()> {
 impl Table for Judges {
     const NAMES: &'static [&'static str] = &["jdg", "frm", "row"];
 
-    fn answer(place: usize, input: &[u8], answer: &mut Bytes) -> Option<()> {
-        match place {
-            0 => both(input, answer),
-            1 => over_frames(input, answer),
-            2 => over_row(input, answer),
+    fn answer(name: &[u8], input: &[u8], answer: &mut Bytes) -> Option<()> {
+        match name {
+            b"jdg" => both(input, answer),
+            b"frm" => over_frames(input, answer),
+            b"row" => over_row(input, answer),
             _ => None,
         }
     }

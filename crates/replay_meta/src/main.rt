@@ -68,26 +68,26 @@ impl Table for Meta {
         "ech", "raw", "ena", "enk", "rsp",
     ];
 
-    fn answer(place: usize, input: &[u8], answer: &mut Bytes) -> Option<()> {
-        match place {
-            0 => nam(input, answer),
-            1 => pad(input, answer),
-            2 => vde(input, answer),
-            3 => ven(input, answer),
-            4 => bde(input, answer),
-            5 => ben(input, answer),
-            6 => epp(input, answer),
-            7 => end(input, answer),
-            8 => fit(input, answer),
-            9 => pde(input, answer),
-            10 => pen(input, answer),
-            11 => ere(input, answer),
-            12 => ewr(input, answer),
-            13 => ech(input, answer),
-            14 => raw(input, answer),
-            15 => ena(input, answer),
-            16 => enk(input, answer),
-            17 => rsp(input, answer),
+    fn answer(name: &[u8], input: &[u8], answer: &mut Bytes) -> Option<()> {
+        match name {
+            b"nam" => nam(input, answer),
+            b"pad" => pad(input, answer),
+            b"vde" => vde(input, answer),
+            b"ven" => ven(input, answer),
+            b"bde" => bde(input, answer),
+            b"ben" => ben(input, answer),
+            b"epp" => epp(input, answer),
+            b"end" => end(input, answer),
+            b"fit" => fit(input, answer),
+            b"pde" => pde(input, answer),
+            b"pen" => pen(input, answer),
+            b"ere" => ere(input, answer),
+            b"ewr" => ewr(input, answer),
+            b"ech" => ech(input, answer),
+            b"raw" => raw(input, answer),
+            b"ena" => ena(input, answer),
+            b"enk" => enk(input, answer),
+            b"rsp" => rsp(input, answer),
             _ => None,
         }
     }

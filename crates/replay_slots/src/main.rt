@@ -42,13 +42,13 @@ fn main(rt: HostRuntime) -> io::Result<()> {
 impl Table for Slots {
     const NAMES: &'static [&'static str] = &["enc", "val", "fac", "frm", "dec"];
 
-    fn answer(place: usize, input: &[u8], answer: &mut Bytes) -> Option<()> {
-        match place {
-            0 => enc(input, answer),
-            1 => val(input, answer),
-            2 => fac(input, answer),
-            3 => frm(input, answer),
-            4 => dec(input, answer),
+    fn answer(name: &[u8], input: &[u8], answer: &mut Bytes) -> Option<()> {
+        match name {
+            b"enc" => enc(input, answer),
+            b"val" => val(input, answer),
+            b"fac" => fac(input, answer),
+            b"frm" => frm(input, answer),
+            b"dec" => dec(input, answer),
             _ => None,
         }
     }
@@ -158,6 +158,8 @@ fn read_placed(input: &[u8]) -> Option<Placed> {
         length,
     })
 }
+
+// A function for each of three that C calls, with the same arguments and another list: an exported function has one type.
 
 fn val(input: &[u8], answer: &mut Bytes) -> Option<()> {
     let p = read_placed(input)?;

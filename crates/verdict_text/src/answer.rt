@@ -17,6 +17,8 @@ use judge::verdict::{JudgeError, Judgement};
 use std::fmt;
 use std::io::{self, ErrorKind, Read, Write};
 
+// No heap: the buffers have the room that the longest text takes, and beside each goes how many of its bytes count.
+
 /// The longest text that is judged.
 const LONGEST: usize = 65536;
 
@@ -44,6 +46,7 @@ impl Refusal {
     pub fn number(self) -> u8
         ensures { result ≡ refusal_number self }
     {
+        // A row a case: a case that holds an error is no number by a cast.
         match self {
             Refusal::LongText => 11,
             Refusal::BadLine => 10,
@@ -105,6 +108,9 @@ fn read_text<R: Read>(input: &mut R, text: &mut [u8]) -> io::Result<(usize, bool
     let more = fill(input, &mut next)? == 1;
     Ok((held, more))
 }
+
+// By how many bytes are held, here and in `put`: each call tells how many it gave or took, and a loop without that number would cut the rest
+// off a slice that is lent to it, no plainer.
 
 // Reads until `buffer` is full or the input ends, and tells how many bytes stand at its start.
 fn fill<R: Read>(input: &mut R, buffer: &mut [u8]) -> io::Result<usize>

@@ -3,6 +3,8 @@ ghost use Rattle.std.specs.Prelude.{◌≡◌, ◌++◌, ◌+◌, ◌*◌, ◌/�
 ghost use Rattle.judge.specs.Frames.{verdict_width};
 ghost use Rattle.verdict_text.specs.Write.{line, verdict_line, last_line, refusal_line, judgement_bytes, judgement_text};
 
+// Written byte for byte into a buffer of fixed size, each line equal to a definition: `Display` writes to a writer, and there is none here.
+
 use judge::frames::VERDICT;
 use judge::verdict::Judgement;
 
@@ -27,7 +29,7 @@ fn write_line(output: &mut [u8], at: usize, bytes: &[u8]) -> usize
     end + 1
 }
 
-// Heal slot, heal pair, writable, clean, refused.
+// Heal slot, heal pair, writable, clean, refused: the row is the layout of the line.
 fn judgement_bytes(j: Judgement) -> [u8; JUDGEMENT]
     ensures { result ≡ judgement_bytes j }
 {

@@ -1,4 +1,4 @@
--- The law is proved in StatementLaws.antt.
+-- When a store has no clean mark: proved in StatementLaws.antt.
 use Rattle.cut.proofs.StatementLaws.{unmarked_store}
 use Rattle.cut.proofs.clean_mark.Goals as goal
 

@@ -1,4 +1,4 @@
--- The theorem is proved in Theorem.antt.
+-- `cut_theorem` meets its contract: the cut theorem is proved in Theorem.antt.
 use Rattle.cut.proofs.Theorem.{cut_theorem}
 use Rattle.cut.proofs.cut_theorem.Goals as goal
 

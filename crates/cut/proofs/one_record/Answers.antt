@@ -1,4 +1,4 @@
--- The law is proved in StatementLaws.antt.
+-- Of a pair one record is read back: proved in StatementLaws.antt.
 use Rattle.cut.proofs.StatementLaws.{one_payload}
 use Rattle.cut.proofs.one_record.Goals as goal
 
