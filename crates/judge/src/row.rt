@@ -122,6 +122,7 @@ fn second_pass<V: Verdicts>(
 }
 
 // The refusals in their order, and the highest numbers where there is none. `room`: there is room for the verdicts.
+#[inline(always)]
 pub(crate) fn admit<P: ReadPair>(pairs: &[P], clean: u8, room: bool) -> Result<Maxima, JudgeError>
     ensures { result ≡ unless (error (length pairs.now == 0) true room (nat_le clean 1 && list_all P.within pairs.now)) (note_all no_maxima (slots (map P.shown pairs.now))) }
 {

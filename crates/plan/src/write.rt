@@ -54,6 +54,7 @@ pub(crate) fn frame_at(frames: &[u8], pair: usize) -> Option<&[u8; FRAME]>
 }
 
 // Plans the next write of the pair at `pair`; None where the pair must not be written.
+#[inline(always)]
 #[tactic(auto, unfolding(crate::specs::Plan::plan_write))]
 pub fn plan_write(frames: &[u8], pair: usize) -> Result<Option<Plan>, PlanError>
     ensures { result ≡ plan_write frames.now pair }
