@@ -3,6 +3,7 @@
 use Rattle.std.specs.Prelude.{Bool, true, false, List, [], ◌∷◌, ◌++◌, ℕ, ◌+◌, ◌*◌, replicate}
 use Rattle.slot.specs.Status.{index_number}
 use Rattle.slot.specs.Write.{encode}
+use Rattle.slot.specs.Laws.{expect_of}
 use Rattle.slot.specs.declared.slot.SlotIndex.{SlotIndex}
 use Rattle.slot.specs.declared.slot.SlotFields.{SlotFields}
 use Rattle.slot.specs.declared.slot.Expect.{Expect}
@@ -69,16 +70,7 @@ fields object index generation prev number =
 
 -- A slot is read with the identity and size that it is written with, in format 2 and numbered.
 abbrev pub read_with : SlotFields → Expect
-read_with f =
-    record {
-      volume_uuid = f.volume_uuid;
-      object_id = f.object_id;
-      slot_offset = f.slot_offset;
-      slot_index = f.slot_index;
-      log2_slot_size = f.log2_slot_size;
-      format_major = f.format_major;
-      numbered = true;
-    }
+read_with f = expect_of f true
 
 -- A slot as `encode` writes it.
 abbrev pub written_slot : SlotFields → List ℕ → Slot

@@ -6,7 +6,7 @@ use Rattle.judge.specs.declared.verdict.JudgeError.{JudgeError}
 use Rattle.judge.specs.Judge.{error}
 use Rattle.judge.specs.Frames.{frame_width, verdict_width, pair_count, pair_in_range, frames, verdict_bytes, verdict_from, verdict_cells, row_bytes, frames_error}
 
--- Both tests say the same.
+-- Both tests say the same. The library has none.
 pub same_test : (m n j k : ℕ) → (m ≡ n → j ≡ k) → (j ≡ k → m ≡ n) → eqb m n ≡ eqb j k
 same_test m n j k there back = grind (arith, there, back)
 

@@ -33,6 +33,7 @@ pub part-in-range : (rest : Version) (st : SlotStatus) (f : Option HeaderFacts) 
 unfolding filled
 part-in-range rest st f = simp ((shows rest st f).1, facts-small f)
 
+-- The library has none.
 either-below : (given : Bool) (x y n : ℕ) → x < n → y < n → cond given x y < n
 either-below given x y n below other = grind (arith, below, other)
 

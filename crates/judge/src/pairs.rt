@@ -99,7 +99,7 @@ impl Shown {
 }
 
 impl Pair {
-    // The slot at an index.
+    // The slot at an index, as the report of a pair gives a status: a trait over both pairs would be longer than the two.
     pub fn slot(self, index: SlotIndex) -> Shown
         ensures { result ≡ by_index index self.a self.b }
     {

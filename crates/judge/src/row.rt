@@ -77,6 +77,8 @@ fn maxima<P: ReadPair>(pairs: &[P]) -> Option<Maxima>
     Some(m)
 }
 
+// The pairs and their highest numbers go side by side through the passes: a struct of both would be taken apart in each.
+//
 // Writes each pair's first verdict, and counts over them.
 fn first_pass<P: ReadPair, V: Verdicts>(pairs: &[P], m: Maxima, out: &mut V) -> Tally
     requires { length (V.cells out.old) ≡ length pairs.now }

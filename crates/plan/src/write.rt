@@ -45,7 +45,7 @@ fn plan_next(report: &PairReport, most: u64) -> Result<Option<Plan>, PlanError>
     Ok(Some(plan_at(index, report, most)?))
 }
 
-// The frame of the pair at `pair`.
+// The frame of the pair at `pair`. Frames and place are two parameters here and of each plan: a struct would be made for the one call.
 pub(crate) fn frame_at(frames: &[u8], pair: usize) -> Option<&[u8; FRAME]>
     ensures { option_map (λ f. f.now) result ≡ slice_get (frames_of frames.now) pair }
 {

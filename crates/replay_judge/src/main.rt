@@ -63,15 +63,14 @@ fn both(input: &[u8], answer: &mut Bytes) -> Option<()> {
 fn over_frames(input: &[u8], answer: &mut Bytes) -> Option<()> {
     let (clean, rest) = first_u8(input)?;
     let (length, frames) = first_length(rest)?;
-    let before = [255u8; PAIRS * VERDICT];
-    let mut verdicts = before;
+    let mut verdicts = Bytes::try_from([255u8; PAIRS * VERDICT].get(..length)?).ok()?;
     let mut judgement = [255u64; 5];
-    let refusal = sio_judge(frames, clean, verdicts.get_mut(..length)?, &mut judgement);
+    let refusal = sio_judge(frames, clean, &mut verdicts, &mut judgement);
     answer.try_push(narrow(refusal)).ok()?;
-    if refusal != 0 && verdicts == before && judgement == [255u64; 5] {
+    if refusal != 0 && verdicts.iter().all(|byte| *byte == 255) && judgement == [255u64; 5] {
         return Some(());
     }
-    put_judgement(answer, &judgement, verdicts.get(..length)?)
+    put_judgement(answer, &judgement, &verdicts)
 }
 
 fn over_row(input: &[u8], answer: &mut Bytes) -> Option<()> {

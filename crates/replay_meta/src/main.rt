@@ -93,6 +93,8 @@ impl Table for Meta {
     }
 }
 
+// A function for each that C calls, here and below: an exported function has one type, and so has what calls it.
+
 // ---- names
 
 fn nam(input: &[u8], answer: &mut Bytes) -> Option<()> {

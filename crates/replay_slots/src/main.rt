@@ -71,12 +71,10 @@ fn enc(input: &[u8], answer: &mut Bytes) -> Option<()> {
     let (compat_flags, rest) = first_u32(rest)?;
     let (length, rest) = first_length(rest)?;
     let (byte, payload) = first_u8(rest)?;
-    let before = [byte; SLOT];
-    let mut buffer = [byte; SLOT];
-    let slot = buffer.get_mut(..length)?;
+    let mut slot = Bytes::try_from([byte; SLOT].get(..length)?).ok()?;
     let mut header_crc32c = NO_CHECKSUM;
     let refusal = sio_encode(
-        slot,
+        &mut slot,
         volume0,
         volume1,
         object_id,
@@ -93,13 +91,13 @@ fn enc(input: &[u8], answer: &mut Bytes) -> Option<()> {
         &mut header_crc32c,
     );
     answer.try_push(narrow(refusal)).ok()?;
-    if refusal != 0 && header_crc32c == NO_CHECKSUM && buffer == before {
+    if refusal != 0 && header_crc32c == NO_CHECKSUM && slot.iter().all(|b| *b == byte) {
         return Some(());
     }
     answer
         .try_extend_from_slice(&header_crc32c.to_le_bytes())
         .ok()?;
-    put_slot(answer, buffer.get(..length)?)
+    put_slot(answer, &slot)
 }
 
 // The length of a slot and its bytes up to the last that is not 0.
@@ -116,7 +114,7 @@ fn put_slot(answer: &mut Bytes, slot: &[u8]) -> Option<()> {
 // ---- slots read
 
 // Where a slot is expected, and the slot's bytes.
-#[derive(Clone, Copy)]
+#[derive(Drop)]
 struct Placed {
     volume0: u64,
     volume1: u64,
@@ -126,8 +124,7 @@ struct Placed {
     log2_slot_size: u8,
     format_major: u16,
     numbered: u32,
-    slot: [u8; SLOT],
-    length: usize,
+    slot: Bytes,
 }
 
 fn read_placed(input: &[u8]) -> Option<Placed> {
@@ -140,11 +137,8 @@ fn read_placed(input: &[u8]) -> Option<Placed> {
     let (format_major, rest) = first_u16(rest)?;
     let (numbered, rest) = first_u32(rest)?;
     let (length, bytes) = first_length(rest)?;
-    if SLOT < length || length < bytes.len() {
-        return None;
-    }
-    let mut slot = [0u8; SLOT];
-    slot[..bytes.len()].copy_from_slice(bytes);
+    let mut slot = Bytes::try_from([0u8; SLOT].get(..length)?).ok()?;
+    slot.get_mut(..bytes.len())?.copy_from_slice(bytes);
     Some(Placed {
         volume0,
         volume1,
@@ -155,7 +149,6 @@ fn read_placed(input: &[u8]) -> Option<Placed> {
         format_major,
         numbered,
         slot,
-        length,
     })
 }
 
@@ -165,7 +158,7 @@ fn val(input: &[u8], answer: &mut Bytes) -> Option<()> {
     let p = read_placed(input)?;
     let mut found = [0u64; 9];
     let status = sio_validate(
-        p.slot.get(..p.length)?,
+        &p.slot,
         p.volume0,
         p.volume1,
         p.object_id,
@@ -183,7 +176,7 @@ fn fac(input: &[u8], answer: &mut Bytes) -> Option<()> {
     let p = read_placed(input)?;
     let mut found = [0u64; 4];
     let facts = sio_header_facts(
-        p.slot.get(..p.length)?,
+        &p.slot,
         p.volume0,
         p.volume1,
         p.object_id,
@@ -201,7 +194,7 @@ fn frm(input: &[u8], answer: &mut Bytes) -> Option<()> {
     let p = read_placed(input)?;
     let mut part = [0u8; 26];
     let status = sio_frame_slot(
-        p.slot.get(..p.length)?,
+        &p.slot,
         p.volume0,
         p.volume1,
         p.object_id,

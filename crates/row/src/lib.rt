@@ -14,7 +14,7 @@ use slot::slot::{HeaderFacts, NumberedHeader, SlotStatus};
 
 // ---- the record of a frame
 
-// A number that is no status stands for a slot that was not read.
+// A number that is no status stands for a slot that was not read. A line in `plan` too: a method for both would say no more than `unwrap_or`.
 fn status_from(part: SlotPart) -> SlotStatus
     ensures { result ≡ status_from part }
 {
@@ -43,6 +43,7 @@ fn facts_from(part: SlotPart) -> Option<HeaderFacts>
     }
 }
 
+// Of a part and of a frame by name: with `From` a contract would name the same, and a line more each.
 fn slot_of(part: SlotPart) -> SlotRead
     ensures { result ≡ slot_of part }
 {

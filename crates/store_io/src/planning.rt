@@ -1,4 +1,6 @@
 // The next writes for C hosts: what a correct write is.
+//
+// The C interface has one function an answer: each is written out, with frames and a pair's place side by side.
 ghost use Rattle.std.specs.Prelude.{◌≡◌};
 ghost use Rattle.plan.specs.Error.{error_number};
 ghost use Rattle.plan.specs.Numbers.{next_number, heal_number};

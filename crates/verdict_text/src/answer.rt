@@ -129,7 +129,8 @@ fn fill<R: Read>(input: &mut R, buffer: &mut [u8]) -> io::Result<usize>
     Ok(held)
 }
 
-// One read, made again where a signal interrupts it.
+// One read, made again where a signal interrupts it. Not one function with `write_some`: it would take the call as a closure, whose contract
+// would be that of `read` or of `write` once more.
 fn read_some<R: Read>(input: &mut R, buffer: &mut [u8]) -> io::Result<usize>
     ensures bound { ReadsAtMost result buffer.new }
     ensures bytes { ReadConsumes (R.remaining input.old) (R.remaining input.new) result buffer.new }
