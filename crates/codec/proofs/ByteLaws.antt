@@ -13,6 +13,7 @@ take-bytes (suc n) (x ∷ s) small (suc i) = take-bytes n s (λ k. small (suc k)
 pub drop-bytes : (n : ℕ) (s : List ℕ) → AllBytes s → AllBytes (drop n s)
 drop-bytes n s small i = rw get_or-drop (small (n + i))
 
+-- That joins, zeros and what is written of a number are bytes, the library has not: `AllBytes` is of this crate.
 pub append-bytes : (s t : List ℕ) → AllBytes s → AllBytes t → AllBytes (s ++ t)
 append-bytes [] t small rest i = rest i
 append-bytes (x ∷ s) t small rest zero = small 0

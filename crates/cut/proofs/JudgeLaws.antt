@@ -1,7 +1,6 @@
 -- The judge over a row in which every pair but one is settled, and that one's winner stands beside a slot that a crash explains: the
 -- second pass changes nothing, the store is writable, and only that slot can be healed.
 use Rattle.std.proofs.Common.{◌≡◌, refl, ap, ap₂, ◌∙◌, Bool, true, false, cond, List, [], ◌∷◌, ◌++◌, ℕ, ◌+◌, arith, length, Option, Some, None}
-use Rattle.std.specs.Option.{option_or}
 use Rattle.slot.specs.Status.{other}
 use Rattle.slot.specs.declared.slot.SlotIndex.{SlotIndex}
 use Rattle.judge.specs.Verdict.{standing_beside, winner_beside, is_in_flight, in_flight}
@@ -10,6 +9,7 @@ use Rattle.judge.specs.declared.pairs.Pair.{Pair as ShownPair}
 use Rattle.judge.specs.declared.verdict.SlotVerdict.{SlotVerdict}
 use Rattle.judge.specs.declared.verdict.Standing.{Standing}
 use Rattle.judge.specs.declared.verdict.PairVerdict.{PairVerdict}
+use Rattle.judge.proofs.PassLaws.{or-last}
 use Rattle.cut.specs.Store.{Every}
 
 -- A pair is settled: its winner stands beside a slot that needs nothing.
@@ -61,11 +61,6 @@ settled_none : (index : SlotIndex) (i : ℕ) → pair_heal i (settled_verdict in
 settled_none SlotIndex.A i = refl
 settled_none SlotIndex.B i = refl
 
--- The library has none.
-or_none : (h : Option (ℕ × SlotIndex)) → option_or h None ≡ h
-or_none None = refl
-or_none (Some at) = refl
-
 settled_heal : {vs : List PairVerdict} → Settled vs → (i : ℕ) → heal i vs ≡ None
 settled_heal none i = refl
 settled_heal (more index rest) i = simp (settled_heal rest (i + 1), settled_none index i)
@@ -105,7 +100,7 @@ module _ (v : PairVerdict) (behind : List PairVerdict) (settled_behind : Settled
   row_heal_at : {before : List PairVerdict} → Settled before → (i : ℕ) → heal i (before ++ v ∷ behind) ≡ pair_heal (i + length before) v
   row_heal_at none i = rw (settled_heal settled_behind (i + 1)) (ap (λ (k : ℕ). pair_heal k v) (omega arith))
   row_heal_at (more index rest) i =
-      rw (settled_none index i) (or_none _ ∙ row_heal_at rest (i + 1) ∙ ap (λ (k : ℕ). pair_heal k v) (omega arith))
+      rw (settled_none index i) (or-last _ ∙ row_heal_at rest (i + 1) ∙ ap (λ (k : ℕ). pair_heal k v) (omega arith))
 
   row_none_in_flight : in_flight v ≡ false → {before : List PairVerdict} → Settled before → (volume page : Bool)
       → last_verdicts volume page (before ++ v ∷ behind) ≡ before ++ v ∷ behind

@@ -118,7 +118,7 @@ or-assoc : {T : Type 0} (x y z : Option T) → option_or x (option_or y z) ≡ o
 or-assoc None y z = refl
 or-assoc (Some x) y z = refl
 
-or-last : {T : Type 0} (x : Option T) → option_or x None ≡ x
+pub or-last : {T : Type 0} (x : Option T) → option_or x None ≡ x
 or-last None = refl
 or-last (Some x) = refl
 

@@ -1,5 +1,5 @@
 -- Laws of region names: what an accepted name is, and that storing a name and reading it back are inverse to each other.
-use Rattle.std.proofs.Common.{◌≡◌, refl, sym, ap, ◌∙◌, subst, Bool, true, false, cond, not, ◌&&◌, List, [], ◌∷◌, ◌++◌, ℕ, zero, suc, ◌+◌, ◌-◌, ◌≤◌, ◌<◌, ◌==◌, arith, eq-eqb, ne_eqb, le-ltb, le-leb, eqb-true, length, take, drop, replicate, Option, Some, None, Ok, length-drop, take-append-drop, length-take-le, take_at, drop_at}
+use Rattle.std.proofs.Common.{◌≡◌, refl, sym, ap, ◌∙◌, Bool, true, false, cond, not, ◌&&◌, List, [], ◌∷◌, ◌++◌, ℕ, zero, suc, ◌+◌, ◌-◌, ◌≤◌, ◌<◌, ◌==◌, arith, eq-eqb, ne_eqb, le-ltb, le-leb, eqb-true, length, take, drop, replicate, Option, Some, None, Ok, length-drop, take-append-drop, length-take-le, take_at, drop_at}
 use Rattle.std.specs.Prelude.{if◌then◌else◌, ◌||◌}
 use Rattle.std.specs.Option.{MatchOption, ok_or, unwrap_or}
 use Rattle.std.specs.List.{AllWithin, HoldsAt, list_all, list_any}

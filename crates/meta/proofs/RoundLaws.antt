@@ -40,10 +40,6 @@ module _ (s : List ℕ) (small : AllBytes s) (i : ℕ) where
   unfolding le
   written_64 fits = le_bytes_8 (take 8 (drop i s)) _ (size 8 fits) (bytes_at 8) refl
 
-  pub below_8 : le w8 s i < 2 ^ 8
-  unfolding le
-  below_8 = let at = bytes_at 1 in omega (arith, at 0)
-
   pub below_16 : le w16 s i < 2 ^ 16
   unfolding le
   below_16 = let at = bytes_at 2 in omega (arith, at 0, at 1)

@@ -329,6 +329,7 @@ pub struct VolumeMeta {
 }
 
 impl VolumeMeta {
+    // As the record of 64 bytes and an entry: a length, the fields, the length. A function over the three would be told each of these, no plainer.
     /// Encodes the record into the first 48 bytes of `out`. A refusal keeps `out`.
     #[tactic(auto, unfolding(crate::specs::Base::encode_base), using(crate::proofs::BaseLaws::base_fits))]
     pub fn encode(&self, out: &mut [u8]) -> Result<usize, MetaError>

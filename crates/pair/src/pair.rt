@@ -37,7 +37,7 @@ pub enum Winner {
 }
 
 impl Winner {
-    // The number of a standing: 0 to 3 as of a verdict, 4 Empty, 5 Fork. By a `match`, since a cast numbers no case that holds a slot; and not
+    // The number of a standing: 0 to 3 as of a verdict, 4 Empty, 5 Fork. By a `match`, as `slot`, since a cast numbers no case that holds a slot; not
     // one function with a verdict's number, since a verdict has four cases and none of them holds one.
     pub fn number(self) -> u8
         ensures { result ≡ winner_number self }
@@ -76,7 +76,7 @@ pub struct PairReport {
 }
 
 impl PairReport {
-    // Both codes, the winner's number and slot, gap, chain break, and the slot of the next write.
+    // Both codes, the winner's number and slot, gap, chain break, and the slot of the next write: the row of numbers that C gets.
     #[tactic(auto, unfolding(crate::specs::Numbers::report_numbers))]
     pub fn numbers(self) -> [u8; 7]
         ensures { result ≡ report_numbers self }

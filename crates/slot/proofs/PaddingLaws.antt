@@ -1,7 +1,7 @@
 -- What a slot's answer depends on: the first 128 bytes, those of the header where it is longer, the length, and the payload. The bytes
 -- after the payload do not count.
-use Rattle.std.proofs.Common.{◌≡◌, refl, sym, ap, ap₂, ◌∙◌, Bool, true, false, List, ◌++◌, ℕ, ◌-◌, ◌≤◌, arith, lit≤, length, take, replicate, ltb, Some, None, Result, Ok, Err}
-use Rattle.std.specs.Prelude.{nat_lt, is_ok, if◌then◌else◌}
+use Rattle.std.proofs.Common.{◌≡◌, refl, ap, ap₂, ◌∙◌, Bool, true, false, List, ◌++◌, ℕ, ◌-◌, ◌≤◌, arith, lit≤, length, take, replicate, ltb, Some, None, Result, Ok, Err}
+use Rattle.std.specs.Prelude.{is_ok, if◌then◌else◌}
 use Rattle.std.specs.Int.{w8, w16, w32, w64}
 use Rattle.codec.specs.Bytes.{le16}
 use Rattle.codec.specs.Crc32c.{crc32c}
@@ -60,10 +60,6 @@ module _ (m : ℕ) (s t : List ℕ) (h : SameHeader m s t) where
   pub check_same : (e : Expect) → check s (header s) e ≡ check t (header t) e
   unfolding check passes_checksum
   check_same e = simp (h.sizes, sum_same (le16 s 12) h.whole) (ap (λ (a : Header). check t a e) headers)
-
-  read_same : header_read s ≡ header_read t
-  read_same =
-      header_layout s ∙ ap₂ (λ (n : ℕ) (a : Header). if nat_lt n 128 then None else Some a) h.sizes headers ∙ sym (header_layout t)
 
   -- The facts go by the header alone.
   pub facts_same : (e : Expect) → header_facts s e ≡ header_facts t e

@@ -4,7 +4,7 @@ ghost use Rattle.slot.specs.Numbers.{choice_number, status_values, status_of, St
 
 use crate::slot::{SlotIndex, SlotInfo, SlotStatus};
 
-// 0 none, 1 A, 2 B.
+// 0 none, 1 A, 2 B. By a `match`: none is no slot, which no cast numbers.
 pub fn choice_number(choice: Option<SlotIndex>) -> u8
     ensures { result ≡ choice_number choice }
 {
