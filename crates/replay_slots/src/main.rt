@@ -137,8 +137,11 @@ fn read_placed(input: &[u8]) -> Option<Placed> {
     let (format_major, rest) = first_u16(rest)?;
     let (numbered, rest) = first_u32(rest)?;
     let (length, bytes) = first_length(rest)?;
-    let mut slot = Bytes::try_from([0u8; SLOT].get(..length)?).ok()?;
-    slot.get_mut(..bytes.len())?.copy_from_slice(bytes);
+    let blank = [0u8; SLOT];
+    let zeros = blank.get(..length)?.get(bytes.len()..)?;
+    let mut slot = Bytes::new();
+    slot.try_extend_from_slice(bytes).ok()?;
+    slot.try_extend_from_slice(zeros).ok()?;
     Some(Placed {
         volume0,
         volume1,
