@@ -6,9 +6,9 @@ struct Complements;
 impl Table for Complements {
     const NAMES: &'static [&'static str] = &["not", "two"];
 
-    fn answer(place: usize, input: &[u8], answer: &mut Bytes) -> Option<()> {
+    fn answer(name: &[u8], input: &[u8], answer: &mut Bytes) -> Option<()> {
         let (first, rest) = input.split_first()?;
-        if place == 0 {
+        if name == b"not".as_slice() {
             return answer.try_push(!*first).ok();
         }
         let (second, _) = rest.split_first()?;
