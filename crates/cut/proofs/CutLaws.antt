@@ -1,6 +1,6 @@
 -- The slot that a cut write left, by its header: the new one, the old one, or one whose magic stands and which fails its checksum. That
--- is the only place where the number of bytes counts.
-use Rattle.std.proofs.Common.{◌≡◌, refl, sym, ap, ◌∙◌, ◌⊎◌, inl, inr, Bool, true, false, ◌==◌, nat_eq, List, ◌++◌, ℕ, ◌+◌, ◌≤◌, arith, eqb-true, length, take, drop, length-append, length-take, length-drop, take-take, length-take-le}
+-- is the only place where it counts how the write was cut.
+use Rattle.std.proofs.Common.{◌≡◌, refl, sym, ap, ◌∙◌, ◌⊎◌, inl, inr, Bool, true, false, cond, ◌==◌, nat_eq, nat_le, List, ◌++◌, ℕ, ◌+◌, ◌≤◌, arith, eqb-true, leb-true, leb-false, length, take, drop, length-append, length-take, length-drop, take-take, take-append-drop, take_at, length-take-le}
 use Rattle.std.proofs.Math.Seq.{take-append-le}
 use lib.Pointwise.{pointwise, bytes_decides}
 use Rattle.codec.specs.Bytes.{AllBytes, le16, le32}
@@ -8,9 +8,10 @@ use Rattle.codec.proofs.ByteLaws.{take-bytes, drop-bytes, append-bytes}
 use Rattle.slot.specs.Header.{magic}
 use Rattle.slot.specs.Read.{header_sum}
 use Rattle.slot.proofs.Tests.{both}
-use Rattle.cut.specs.Cut.{cut, CutPoint, stands_whole, header_passes, Accident}
-use Rattle.cut.specs.Laws.{FailedSum, FailedPayload}
+use Rattle.cut.specs.Cut.{Tear, Ascending, Sectors, cut, torn, CutPoint, Possible, stands_whole, header_passes, Accident, SectorAccident, AccidentBy}
+use Rattle.cut.specs.Laws.{FailedSum, FailedPayload, OlderAtMost}
 use Rattle.cut.proofs.StatusLaws.{false_true}
+use Rattle.cut.proofs.SectorLaws.{sector_bytes, length_sectors, within_sector}
 
 pub not_same : (s t : List ℕ) → (s ≡ t → ⊥) → pointwise nat_eq s t ≡ false
 not_same s t differ = go (pointwise nat_eq s t) refl
@@ -22,9 +23,9 @@ not_same s t differ = go (pointwise nat_eq s t) refl
 pub differ : (s t : List ℕ) → pointwise nat_eq s t ≡ false → s ≡ t → ⊥
 differ s t not_equal is = false_true {A = ⊥} not_equal ((bytes_decides s t).1 is)
 
--- ---- the cut's bytes
+-- ---- the bytes of a cut in ascending order
 
-pub cut_bytes : (k : ℕ) (new old : List ℕ) → AllBytes new → AllBytes old → AllBytes (cut k new old)
+cut_bytes : (k : ℕ) (new old : List ℕ) → AllBytes new → AllBytes old → AllBytes (cut k new old)
 unfolding cut
 cut_bytes k new old new_all old_all = append-bytes (take k new) (drop k old) (take-bytes k new new_all) (drop-bytes k old old_all)
 
@@ -36,7 +37,7 @@ module _ (k : ℕ) (new old : List ℕ) (sizes : length old ≡ length new) (poi
       go (inl none) = omega arith
       go (inr some) = some.1
 
-  pub length_cut : length (cut k new old) ≡ length new
+  length_cut : length (cut k new old) ≡ length new
   unfolding cut
   length_cut = simp (length-append, length-take, length-drop) (omega (arith, within))
 
@@ -52,6 +53,28 @@ module _ (k : ℕ) (new old : List ℕ) (sizes : length old ≡ length new) (poi
           (take-append-le 8 (take k new) (drop k old) (omega (arith, some.0, length-take-le k new some.1))
           ∙ take-take 8 k new some.0
           ∙ stands)
+
+  -- The old header is left of no byte of another one: then the slot is the old one.
+  pub kept_by_header : (take 128 new ≡ take 128 old → ⊥) → take 128 (cut k new old) ≡ take 128 old → cut k new old ≡ old
+  unfolding cut
+  kept_by_header not_same is = go (nat_le 128 k) refl
+    where
+      go : (past : Bool) → nat_le 128 k ≡ past → take k new ++ drop k old ≡ old
+      go true long =
+          let past : 128 ≤ k = leb-true 128 k long in
+          absurd
+          (not_same
+          (sym
+          (take-append-le 128 (take k new) (drop k old) (omega (arith, length-take-le k new within))
+          ∙ take-take 128 k new past)
+          ∙ is))
+      go false short =
+          let below : k ≤ 128 = let not_past = leb-false 128 k short in omega arith in
+          let front : take k new ≡ take k old =
+          sym (take-take k 128 (take k new ++ drop k old) below ∙ take_at (take k new) (drop k old) k (length-take-le k new within))
+          ∙ ap (take k) is
+          ∙ take-take k 128 old below in
+          ap (λ (s : List ℕ). s ++ drop k old) front ∙ take-append-drop k old
 
 -- ---- the slot by its header
 
@@ -76,10 +99,50 @@ header_of s old new payload none = go (pointwise nat_eq (take 128 s) (take 128 n
     go false is (inl kept) = is_old (differ (take 128 s) (take 128 new) is) (ap (take 128) kept)
     go false is (inr stands) = by_sum (header_passes s) refl (differ (take 128 s) (take 128 new) is) stands
 
-pub cut_header : (k : ℕ) (new old payload : List ℕ) → length old ≡ length new → CutPoint k (length new) → take 8 new ≡ magic
+cut_header : (k : ℕ) (new old payload : List ℕ) → length old ≡ length new → CutPoint k (length new) → take 8 new ≡ magic
     → (Accident (cut k new old) old new payload → ⊥) → Header (cut k new old) old new
 cut_header k new old payload sizes point stands none =
     header_of (cut k new old) old new payload none (old_or_magic k new old sizes point stands)
+
+-- The header lies in the first sector.
+sector_header : (reached : ℕ → Bool) (new old : List ℕ) → length old ≡ length new → Header (torn (Sectors reached) new old) old new
+sector_header reached new old sizes =
+    go (torn (Sectors reached) new old) (reached 0) (within_sector reached 0 _ 128 new old sizes (omega arith) (omega arith))
+  where
+    go : (s : List ℕ) (first : Bool) → take 128 s ≡ cond first (take 128 new) (take 128 old) → Header s old new
+    go s true header_is = Header.is_new header_is
+    go s false header_is = by_test (pointwise nat_eq (take 128 s) (take 128 new)) refl
+      where
+        by_test : (same : Bool) → pointwise nat_eq (take 128 s) (take 128 new) ≡ same → Header s old new
+        by_test true is = Header.is_new ((bytes_decides (take 128 s) (take 128 new)).0 is)
+        by_test false is = Header.is_old (differ (take 128 s) (take 128 new) is) header_is
+
+-- ---- either kind of cut
+
+module _ (new old : List ℕ) (sizes : length old ≡ length new) where
+  pub torn_bytes : (tear : Tear) → AllBytes new → AllBytes old → AllBytes (torn tear new old)
+  torn_bytes (Ascending k) new_all old_all = cut_bytes k new old new_all old_all
+  torn_bytes (Sectors reached) new_all old_all = sector_bytes reached _ new old new_all old_all
+
+  pub length_torn : (tear : Tear) → Possible tear (length new) → length (torn tear new old) ≡ length new
+  length_torn (Ascending k) possible = length_cut k new old sizes possible
+  length_torn (Sectors reached) possible = length_sectors reached _ new old sizes
+
+  pub torn_header : (tear : Tear) (payload : List ℕ) → Possible tear (length new) → take 8 new ≡ magic
+      → (Accident (torn tear new old) old new payload → ⊥) → Header (torn tear new old) old new
+  torn_header (Ascending k) payload possible stands none = cut_header k new old payload sizes possible stands none
+  torn_header (Sectors reached) payload possible stands none = sector_header reached new old sizes
+
+-- ---- the accidents
+
+-- Where the kind of cut has no accident, there is none of those that count for either.
+pub none_of_either : (tear : Tear) {s old new payload : List ℕ} → (AccidentBy tear s old new payload → ⊥) → Accident s old new payload → ⊥
+none_of_either (Ascending k) none accident = none accident
+none_of_either (Sectors reached) none accident = none (SectorAccident.either accident)
+
+pub older_at_most : OlderAtMost
+older_at_most s old new payload none kept (SectorAccident.either accident) = none accident
+older_at_most s old new payload none kept (SectorAccident.older passes old_header other sum) = other (kept passes old_header sum)
 
 -- There is no accident where the sum of a header other than the new one is not the one that it stores.
 pub failed_sum : FailedSum

@@ -4,6 +4,7 @@ pub mod FrameLaws
 pub mod JudgeLaws
 pub mod PairLaws
 pub mod NumberLaws
+pub mod SectorLaws
 pub mod CutLaws
 pub mod WriteLaws
 pub mod WrittenPair

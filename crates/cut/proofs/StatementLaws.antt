@@ -1,4 +1,4 @@
--- The laws of specs/Laws.antt on the marks, the frames and the read-back.
+-- The laws of specs/Laws.antt on the marks, the cut in ascending order, the frames and the read-back.
 use Rattle.std.proofs.Common.{◌≡◌, refl, sym, ap, ap₂, subst, ◌∙◌, Bool, true, false, cond, ◌==◌, List, ◌++◌, append_assoc, ℕ, ◌+◌, length, take, drop, Bor, Option, Some, None, Result, Ok, Err, get_or, get_or-take, get_or-drop, lit<, add-zero}
 use Rattle.std.specs.Int.{w8}
 use Rattle.codec.specs.Bytes.{le}
@@ -23,10 +23,12 @@ use Rattle.meta.specs.Volume.{decode_volume}
 use Rattle.meta.specs.declared.meta.MetaError.{MetaError}
 use Rattle.meta.specs.declared.meta2.VolumeMeta2.{VolumeMeta2}
 use Rattle.meta.proofs.VolumeLaws.{volume_decoded}
-use Rattle.cut.specs.Store.{mark_by, clean_mark, Slot, Pair, slot_at, status, report, frames}
-use Rattle.cut.specs.Cut.{is_empty, handed, PayloadIs}
-use Rattle.cut.specs.Laws.{UnmarkedRecord, UnmarkedStore, PageHanded, TornHanded, WholeHanded, zeros, PairFrame, OnePayload, HasSlots}
+use Rattle.cut.specs.Store.{mark_by, clean_mark, Slot, Pair, slot_at, status, report, frames, SoundPair}
+use Rattle.cut.specs.Cut.{Tear, Ascending, Write, size, old, new, cut, torn, left, CutPoint, CorrectWrite, Accident, payload_by, SectorAccident, is_empty, handed, PayloadIs}
+use Rattle.cut.specs.Laws.{UnmarkedRecord, UnmarkedStore, PageHanded, TornHanded, WholeHanded, OldHeaderKept, NoneInOrder, zeros, PairFrame, OnePayload, HasSlots}
 use Rattle.cut.proofs.PairLaws.{last_is}
+use Rattle.cut.proofs.CutLaws.{kept_by_header}
+use Rattle.cut.proofs.WriteLaws.{old_size, new_size, header_differs}
 
 -- ---- the store's mark
 
@@ -62,6 +64,28 @@ torn_handed w torn = if_first (is_empty w.before) (simp torn)
 pub whole_handed : WholeHanded
 unfolding handed
 whole_handed w before stands = rw (before, stands) refl
+
+-- ---- the cut in ascending order
+
+module _ (w : Write) (k : ℕ) (sound : SoundPair w.pair) (correct : CorrectWrite w) (in_order : w.tear ≡ Ascending k) (point : CutPoint k (size w)) where
+  left_is : left w ≡ cut k (new w) (old w)
+  left_is = ap (λ (tear : Tear). torn tear (new w) (old w)) in_order
+
+  kept : take 128 (left w) ≡ take 128 (old w) → left w ≡ old w
+  kept is =
+      left_is
+      ∙ kept_by_header k (new w) (old w) (old_size w sound correct ∙ sym (new_size w sound correct)) (rw (new_size w sound correct) point)
+      (λ same. header_differs w sound correct (sym same)) (ap (take 128) (sym left_is) ∙ is)
+
+  none_other : SectorAccident (left w) (old w) (new w) w.payload → Accident (left w) (old w) (new w) w.payload
+  none_other (SectorAccident.either accident) = accident
+  none_other (SectorAccident.older passes old_header other sum) = absurd (other (ap (payload_by (old w)) (kept old_header)))
+
+pub old_header_kept : OldHeaderKept
+old_header_kept = kept
+
+pub none_in_order : NoneInOrder
+none_in_order = none_other
 
 -- ---- the frames
 

@@ -14,13 +14,13 @@ use Rattle.judge.specs.declared.pairs.Shown.{Shown}
 use Rattle.judge.specs.declared.verdict.SlotVerdict.{SlotVerdict}
 use Rattle.judge.specs.declared.verdict.PairVerdict.{PairVerdict}
 use Rattle.cut.specs.Store.{Every, Slot, Pair, shown, last_record, last_records, Typed, SoundPair, Sound}
-use Rattle.cut.specs.Cut.{Write, store, size, old, new, left, with_bytes, with_slot, after, CutPoint, CorrectWrite, whole, Accident, is_empty, handed, ReadBack, AllReadBack, Survives, CutTheorem}
+use Rattle.cut.specs.Cut.{Write, store, size, old, new, left, with_bytes, with_slot, after, Possible, CorrectWrite, whole, Accident, is_empty, handed, ReadBack, AllReadBack, Survives, CutTheorem}
 use Rattle.cut.proofs.StatusLaws.{false_true}
 use Rattle.cut.proofs.JudgeLaws.{settled_verdict, Settled, Explained, explained_standing, Healed, row_confirmed, row_verdicts, row_writable, row_heal}
 use Rattle.cut.proofs.FrameLaws.{PairTyped, row_judged, row_written, judged_row, judged_bytes}
 use Rattle.cut.proofs.PairLaws.{shown_pair, number_at, Stands, sound_stands, sound_number}
 use Rattle.cut.proofs.NumberLaws.{place_of, write_qualifies}
-use Rattle.cut.proofs.CutLaws.{cut_bytes, length_cut, Header, cut_header}
+use Rattle.cut.proofs.CutLaws.{torn_bytes, length_torn, Header, torn_header, none_of_either}
 use Rattle.cut.proofs.WriteLaws.{other_other, newer_is, old_size, new_size, new_bytes, new_magic}
 use Rattle.cut.proofs.WrittenPair.{PairAfter, pair_after}
 
@@ -150,7 +150,7 @@ pub sound_pairs : {ps : List Pair} → Sound ps → Every SoundPair ps
 sound_pairs (Sound.row volume pages all) = all
 
 module _ (w : Write) (sound_before : Every SoundPair w.before) (sound : SoundPair w.pair) (sound_behind : Every SoundPair w.behind)
-    (correct : CorrectWrite w) (point : CutPoint w.k (size w)) (none : Accident (left w) (old w) (new w) w.payload → ⊥)
+    (correct : CorrectWrite w) (possible : Possible w.tear (size w)) (none : Accident (left w) (old w) (new w) w.payload → ⊥)
     (out : List ℕ) (room : length out ≡ length (store w) * verdict_width) where
   abbrev p : Pair
   p = with_slot w.index (left w) w.pair
@@ -161,17 +161,17 @@ module _ (w : Write) (sound_before : Every SoundPair w.before) (sound : SoundPai
   sizes : length (old w) ≡ length (new w)
   sizes = old_size w sound correct ∙ sym (new_size w sound correct)
 
-  point_new : CutPoint w.k (length (new w))
-  point_new = rw (new_size w sound correct) point
+  possible_new : Possible w.tear (length (new w))
+  possible_new = rw (new_size w sound correct) possible
 
   left_size : length (left w) ≡ size w
-  left_size = length_cut w.k (new w) (old w) sizes point_new ∙ new_size w sound correct
+  left_size = length_torn (new w) (old w) sizes w.tear possible_new ∙ new_size w sound correct
 
   left_bytes : AllBytes (left w)
-  left_bytes = cut_bytes w.k (new w) (old w) (new_bytes w sound correct) (sound.slots w.index).typed.bytes
+  left_bytes = torn_bytes (new w) (old w) sizes w.tear (new_bytes w sound correct) (sound.slots w.index).typed.bytes
 
   left_header : Header (left w) (old w) (new w)
-  left_header = cut_header w.k (new w) (old w) w.payload sizes point_new (new_magic w sound correct) none
+  left_header = torn_header (new w) (old w) sizes w.tear w.payload possible_new (new_magic w sound correct) none
 
   not_higher : number_at w.index w.pair ≤ number_at (other w.index) w.pair
   not_higher =
@@ -244,7 +244,8 @@ module _ (w : Write) (sound_before : Every SoundPair w.before) (sound : SoundPai
 
 -- The store's clean mark plays no part: the judge is handed false, or a mark that meets no candidate.
 pub cut_theorem : CutTheorem
-cut_theorem w sound no_mark correct point none out room =
+cut_theorem w sound no_mark correct possible none out room =
     let all = sound_pairs sound in
     let from_pair : Every SoundPair (w.pair ∷ w.behind) = every_behind w.before (w.pair ∷ w.behind) all in
-    survives w (every_before w.before (w.pair ∷ w.behind) all) (every_first from_pair) (every_rest from_pair) correct point none out room
+    survives w (every_before w.before (w.pair ∷ w.behind) all) (every_first from_pair) (every_rest from_pair) correct possible
+    (none_of_either w.tear none) out room

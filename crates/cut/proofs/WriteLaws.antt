@@ -1,14 +1,17 @@
 -- A correct write to a sound pair: `encode` refuses nothing, its fields fit and ask for what the slot is read with; the winner, the
 -- record before the write, and the slot that is written over.
-use Rattle.std.proofs.Common.{◌≡◌, refl, sym, ap, ap₂, subst, ◌∙◌, Bool, true, List, ◌++◌, ℕ, ◌-◌, ◌^◌, ◌≤◌, ◌<◌, arith, eq-eqb, ne_eqb, le-leb, le-ltb, length, take, drop, replicate, length-append, pow_mono, take_at, drop_at, Result, Ok}
+use Rattle.std.proofs.Common.{◌≡◌, refl, sym, ap, ap₂, subst, ◌∙◌, Bool, true, false, ◌==◌, List, ◌++◌, ℕ, ◌-◌, ◌^◌, ◌≤◌, ◌<◌, arith, eq-eqb, ne_eqb, le-leb, le-ltb, length, take, drop, replicate, length-append, pow_mono, take-append-drop, take_at, drop_at, Result, Ok}
 use Rattle.std.proofs.Math.ListN.{length-replicate}
+use Rattle.std.specs.List.{list_all}
 use Rattle.codec.specs.Bytes.{AllBytes}
+use Rattle.codec.specs.Crc32c.{crc32c}
 use Rattle.slot.specs.Status.{other}
 use Rattle.slot.specs.Payload.{payload as payload_of}
-use Rattle.slot.specs.Header.{magic}
+use Rattle.slot.specs.Header.{magic, header}
 use Rattle.slot.specs.Read.{is_slot_length}
 use Rattle.slot.specs.Write.{header_bytes, header_crc, written_header, slot_bytes, encode_check, encoded as encode_by, encode}
-use Rattle.slot.specs.Laws.{Fits, expect_of}
+use Rattle.slot.specs.Laws.{Fits, expect_of, stored_header}
+use Rattle.slot.specs.declared.header.Header.{Header}
 use Rattle.slot.specs.declared.slot.SlotIndex.{SlotIndex}
 use Rattle.slot.specs.declared.slot.SlotInfo.{SlotInfo}
 use Rattle.slot.specs.declared.slot.SlotStatus.{SlotStatus}
@@ -17,12 +20,12 @@ use Rattle.slot.specs.declared.slot.Expect.{Expect}
 use Rattle.slot.specs.declared.slot.EncodeError.{EncodeError}
 use Rattle.slot.proofs.Room.{slot_length}
 use Rattle.slot.proofs.WrittenLaws.{length_header}
-use Rattle.slot.proofs.RoundTripLaws.{Proper}
+use Rattle.slot.proofs.RoundTripLaws.{Proper, header-is}
 use Rattle.cut.specs.Store.{Pair, accepts, slot_at, status, last_record, SoundSlot, Beside, SoundPair}
 use Rattle.cut.specs.Cut.{Write, size, expect, old, new, CorrectWrite}
 use Rattle.cut.specs.Laws.{Encoded}
 use Rattle.cut.proofs.ByteLaws.{slot_all_bytes, le32_lt}
-use Rattle.cut.proofs.StatusLaws.{blank_is, valid_is}
+use Rattle.cut.proofs.StatusLaws.{false_true, blank_is, valid_is}
 use Rattle.cut.proofs.PairLaws.{last_is, sound_won}
 
 pub other_other : (index : SlotIndex) → other (other index) ≡ index
@@ -210,6 +213,32 @@ module _ (w : Write) (sound : SoundPair w.pair) (correct : CorrectWrite w) where
   pub new_magic : take 8 (new w) ≡ magic
   unfolding written_header header_bytes
   new_magic = ap (take 8) new_parts
+
+  -- ---- a slot with the new header
+
+  module _ (s : List ℕ) (same_header : take 128 s ≡ take 128 (new w)) where
+    pub after_header : written_header w.fields w.payload ++ drop 128 s ≡ s
+    after_header = ap (λ (l : List ℕ). l ++ drop 128 s) (sym (same_header ∙ new_header)) ∙ take-append-drop 128 s
+
+    pub header_new : header s ≡ stored_header (header_crc w.fields w.payload) w.fields (length w.payload) (crc32c w.payload)
+    header_new = ap header (sym after_header) ∙ header-is fields_proper w.payload (drop 128 s) payload_small
+
+  -- The old slot is none: it is Blank, or of a lower generation.
+  not_blank : list_all (λ b. b == 0) (written_header f w.payload) ≡ false
+  unfolding written_header header_bytes
+  not_blank = refl
+
+  pub header_differs : take 128 (old w) ≡ take 128 (new w) → ⊥
+  header_differs same_header = go written_over
+    where
+      go : Older p w.index i → ⊥
+      go (Older.blank is_a first is) =
+          false_true {A = ⊥} not_blank
+          (ap (list_all (λ b. b == 0)) (sym (same_header ∙ new_header)) ∙ (blank_is (old w) (expect w) is).zeros)
+      go (Older.valid j is older) =
+          let known : j.generation ≡ (header (old w)).generation = ap (λ (k : SlotInfo). k.generation) (valid_is (old w) (expect w) j is).info_is in
+          let written : (header (old w)).generation ≡ f.generation = ap (λ (h : Header). h.generation) (header_new (old w) same_header) in
+          omega (arith, known, written, older, correct.generation)
 
 pub encoded : Encoded
 encoded = not_refused

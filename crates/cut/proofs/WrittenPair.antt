@@ -1,6 +1,6 @@
 -- The written pair after the cut, by the header and the payload that the written slot was left with: its winner stands beside a slot that
 -- a crash explains, and what is read back is the new record if it stands whole, else the record before.
-use Rattle.std.proofs.Common.{◌≡◌, refl, sym, ap, ap₂, subst, ◌∙◌, Bool, true, false, cond, nat_eq, ◌==◌, List, ◌++◌, ℕ, ◌+◌, ◌≤◌, ◌<◌, le_of_eq, arith, eq-eqb, le-ltb, eqb-true, lit≤, length, take, drop, take-append-drop, drop_at, take-add, length-take-le, Option, Some, None, Ok}
+use Rattle.std.proofs.Common.{◌≡◌, refl, sym, ap, ap₂, subst, ◌∙◌, Bool, true, false, cond, nat_eq, ◌==◌, List, ◌++◌, ℕ, ◌+◌, ◌≤◌, ◌<◌, le_of_eq, arith, eq-eqb, le-ltb, eqb-true, lit≤, length, take, drop, drop_at, take-add, length-take-le, Option, Some, None, Ok}
 use Rattle.std.specs.List.{list_all}
 use lib.Pointwise.{pointwise, bytes_decides}
 use Rattle.codec.specs.Bytes.{le16, le32}
@@ -19,7 +19,7 @@ use Rattle.slot.specs.declared.slot.HeaderFacts.{HeaderFacts}
 use Rattle.slot.specs.declared.slot.Expect.{Expect}
 use Rattle.slot.proofs.Room.{room}
 use Rattle.slot.proofs.PaddingLaws.{header_same, check_same}
-use Rattle.slot.proofs.RoundTripLaws.{header-is, check_written}
+use Rattle.slot.proofs.RoundTripLaws.{check_written}
 use Rattle.judge.specs.declared.verdict.SlotVerdict.{SlotVerdict}
 use Rattle.cut.specs.Store.{Pair, accepts, slot_at, status, last_record, SoundPair}
 use Rattle.cut.specs.Cut.{Write, size, expect, old, new, with_slot, CorrectWrite, stands_whole, header_passes, payload_in, Accident}
@@ -27,7 +27,7 @@ use Rattle.cut.proofs.StatusLaws.{false_true, passed_is, blank_is, valid_is, bad
 use Rattle.cut.proofs.JudgeLaws.{Explained}
 use Rattle.cut.proofs.PairLaws.{Stands, beside_valid, beside_blank, beside_bad, beside_new, beside_old}
 use Rattle.cut.proofs.CutLaws.{not_same, differ, Header, not_whole}
-use Rattle.cut.proofs.WriteLaws.{other_other, Older, winner_valid, winner_accepted, last_before, written_over, old_length, old_size, payload_small, fields_proper, expect_is, new_size, new_header, new_payload}
+use Rattle.cut.proofs.WriteLaws.{other_other, Older, winner_valid, winner_accepted, last_before, written_over, old_length, old_size, payload_small, fields_proper, expect_is, new_size, new_payload, after_header, header_new}
 
 -- ---- a pair with other bytes in one slot
 
@@ -209,26 +209,26 @@ module _ (w : Write) (sound : SoundPair w.pair) (correct : CorrectWrite w) (s : 
   fresh = info_of w.fields w.payload
 
   module _ (same_header : take 128 s ≡ take 128 (new w)) where
-    parts : written_header w.fields w.payload ++ drop 128 s ≡ s
-    parts = ap (λ (l : List ℕ). l ++ drop 128 s) (sym (same_header ∙ new_header w sound correct)) ∙ take-append-drop 128 s
-
     within : 128 + length w.payload ≤ length s
     within = omega (arith, correct.fits, s_size)
 
-    header_new : header s ≡ stored
-    header_new = ap header (sym parts) ∙ header-is (fields_proper w sound correct) w.payload (drop 128 s) (payload_small w sound correct)
+    parts : written_header w.fields w.payload ++ drop 128 s ≡ s
+    parts = after_header w sound correct s same_header
+
+    header_is : header s ≡ stored
+    header_is = header_new w sound correct s same_header
 
     check_new : check s (header s) e ≡ Ok tt
     check_new =
-        ap (λ (h : SlotHeader). check s h e) header_new
+        ap (λ (h : SlotHeader). check s h e) header_is
         ∙ ap₂ (λ (t : List ℕ) (x : Expect). check t stored x) (sym parts) (sym (expect_is w sound correct))
         ∙ check_written (fields_proper w sound correct) w.payload (drop 128 s) (payload_small w sound correct) (rw parts within)
 
     status_new : status (slot_at (other (other w.index)) p) ≡ by_payload (passes_payload s stored) fresh
-    status_new = status_is check_new ∙ ap (λ (h : SlotHeader). by_payload (passes_payload s h) (header_info h)) header_new
+    status_new = status_is check_new ∙ ap (λ (h : SlotHeader). by_payload (passes_payload s h) (header_info h)) header_is
 
     facts_new : header_facts (slot_at (other (other w.index)) p).bytes (slot_at (other (other w.index)) p).expect ≡ facts_of (le32 s 8) stored
-    facts_new = facts_are check_new ∙ ap (facts_of (le32 s 8)) header_new
+    facts_new = facts_are check_new ∙ ap (facts_of (le32 s 8)) header_is
 
     payload_is : payload_of fresh s ≡ payload_in s w.payload
     unfolding payload_of
@@ -295,7 +295,7 @@ module _ (w : Write) (sound : SoundPair w.pair) (correct : CorrectWrite w) (s : 
             absurd
             (none
             (Accident.payload same_header (differ (payload_in s w.payload) w.payload is)
-            (eqb-true _ _ (sym checksum_is ∙ ok) ∙ sym (ap (λ (h : SlotHeader). h.payload_crc32c) header_new))))
+            (eqb-true _ _ (sym checksum_is ∙ ok) ∙ sym (ap (λ (h : SlotHeader). h.payload_crc32c) header_is))))
 
         by_checksum : (ok : Bool) → passes_payload s stored ≡ ok → Answer
         by_checksum true is = by_bytes is (pointwise nat_eq (payload_in s w.payload) w.payload) refl

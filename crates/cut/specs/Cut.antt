@@ -1,16 +1,18 @@
--- The cut theorem (docs/FORMAT.md, "The sound store and the cut"): a correct write to a sound store is cut after k bytes. Unless an
--- accident happened, every pair is judged Confirmed, the store is writable, no slot but the written one is healed, and every pair's last
--- written record is read back: in the written pair the new one if and only if it stands whole.
+-- The cut theorem (docs/FORMAT.md, "The sound store and the cut"): a correct write to a sound store is cut, after k of its bytes or with
+-- some of its sectors. Unless an accident happened, every pair is judged Confirmed, the store is writable, no slot but the written one is
+-- healed, and every pair's last written record is read back: in the written pair the new one if and only if it stands whole.
 --
 -- The definitions of other crates that are named here are those that the contracts of `encode`, `validate`, `header_facts`, `judge`, the
 -- winner's payload and the decoders state.
-use Rattle.std.specs.Prelude.{◌≡◌, ◌⊎◌, Bool, true, false, ◌&&◌, ◌==◌, nat_le, nat_eq, if◌then◌else◌, List, [], ◌∷◌, ◌++◌, ℕ, ◌+◌, ◌*◌, ◌^◌, ◌≤◌, ◌<◌, length, take, drop, Some, None, Ok}
+use Rattle.std.specs.Prelude.{◌≡◌, ◌⊎◌, Bool, true, false, ◌&&◌, ◌==◌, nat_le, nat_eq, if◌then◌else◌, List, [], ◌∷◌, ◌++◌, ℕ, ◌+◌, ◌*◌, ◌/◌, ◌^◌, ◌≤◌, ◌<◌, length, take, drop, Some, None, Ok}
 use Rattle.std.specs.Borrow.{Bor}
 use lib.Pointwise.{pointwise}
 use Rattle.codec.specs.Bytes.{AllBytes, le16, le32}
 use Rattle.codec.specs.Crc32c.{crc32c}
 use Rattle.slot.specs.Status.{other}
-use Rattle.slot.specs.Read.{header_sum}
+use Rattle.slot.specs.Header.{header as fields_of}
+use Rattle.slot.specs.Payload.{payload as payload_of}
+use Rattle.slot.specs.Read.{header_info, header_sum}
 use Rattle.slot.specs.Write.{encode}
 use Rattle.slot.specs.declared.slot.SlotIndex.{SlotIndex}
 use Rattle.slot.specs.declared.slot.SlotInfo.{SlotInfo}
@@ -29,8 +31,15 @@ use Rattle.cut.specs.Store.{Every, Slot, Pair, accepts, clean_mark, slot_at, rep
 
 -- ---- the write and the cut
 
+-- What of a write reached the slot before the cut.
+pub data Tear : Type 0 where
+  -- Its bytes in ascending order: the first k.
+  Ascending : ℕ → Tear
+  -- Its aligned sectors, each whole, in no fixed order: those that are told, counted from 0.
+  Sectors : (ℕ → Bool) → Tear
+
 -- A write to the slot at the index of a pair, in a store with other pairs before and behind it: `encode` of the fields and the payload
--- into a buffer, of which the first k bytes reach the slot.
+-- into a buffer, and what of it reached the slot.
 pub record Write : Type 0 where
   pub before : List Pair
   pub pair : Pair
@@ -39,7 +48,7 @@ pub record Write : Type 0 where
   pub fields : SlotFields
   pub payload : List ℕ
   pub buffer : List ℕ
-  pub k : ℕ
+  pub tear : Tear
 
 abbrev pub store : Write → List Pair
 store w = w.before ++ w.pair ∷ w.behind
@@ -60,9 +69,23 @@ new w = (encode w.fields w.payload w.buffer).0
 unfoldable pub cut : ℕ → List ℕ → List ℕ → List ℕ
 cut k new old = take k new ++ drop k old
 
+-- Bytes of a sector.
+abbrev pub sector_size : ℕ
+sector_size = 512
+
+-- From the ith byte on, each byte is new if its sector is, and else old.
+unfoldable pub by_sector : (ℕ → Bool) → ℕ → List ℕ → List ℕ → List ℕ
+by_sector reached i [] old = []
+by_sector reached i (x ∷ new) [] = []
+by_sector reached i (x ∷ new) (y ∷ old) = (if reached (i / sector_size) then x else y) ∷ by_sector reached (i + 1) new old
+
+abbrev pub torn : Tear → List ℕ → List ℕ → List ℕ
+torn (Ascending k) new old = cut k new old
+torn (Sectors reached) new old = by_sector reached 0 new old
+
 -- The slot as the cut left it.
 abbrev pub left : Write → List ℕ
-left w = cut w.k (new w) (old w)
+left w = torn w.tear (new w) (old w)
 
 abbrev pub with_bytes : List ℕ → Slot → Slot
 with_bytes bytes s = record { bytes = bytes; expect = s.expect; rest = s.rest }
@@ -78,6 +101,11 @@ after w = w.before ++ with_slot w.index (left w) w.pair ∷ w.behind
 -- k is 0 or from 8 to the slot's size: of one to seven bytes nothing is said.
 abbrev pub CutPoint : ℕ → ℕ → Type 0
 CutPoint k size = (k ≡ 0) ⊎ ((8 ≤ k) × (k ≤ size))
+
+-- Any set of sectors may have reached the slot.
+abbrev pub Possible : Tear → ℕ → Type 0
+Possible (Ascending k) size = CutPoint k size
+Possible (Sectors reached) size = Unit {0}
 
 -- Correct write: for the slot that is not the winner, in format 2 with the identity and size that slot is read with, generation one up,
 -- previous checksum the winner's, number one above the store's highest, both below 2^64, acceptable payload that fits the slot. The
@@ -129,6 +157,24 @@ pub data Accident (s old new payload : List ℕ) : Type 0 where
       → (payload_in s payload ≡ payload → ⊥)
       → crc32c (payload_in s payload) ≡ le32 s 28
       → Accident s old new payload
+
+-- The payload that a slot has by the header of the same or of another one.
+abbrev pub payload_by : List ℕ → List ℕ → List ℕ
+payload_by head s = payload_of (header_info (fields_of head)) s
+
+-- Where sectors are finished in their own order, an accident is also that under the old header a payload other than the old one passes
+-- its checksum.
+pub data SectorAccident (s old new payload : List ℕ) : Type 0 where
+  either : Accident s old new payload → SectorAccident s old new payload
+  older : header_passes s ≡ true
+      → take 128 s ≡ take 128 old
+      → (payload_by old s ≡ payload_by old old → ⊥)
+      → crc32c (payload_by old s) ≡ le32 s 28
+      → SectorAccident s old new payload
+
+abbrev pub AccidentBy : Tear → List ℕ → List ℕ → List ℕ → List ℕ → Type 0
+AccidentBy (Ascending k) s before after r = Accident s before after r
+AccidentBy (Sectors reached) s before after r = SectorAccident s before after r
 
 -- ---- judged and read back
 
@@ -184,7 +230,7 @@ CutTheorem =
     → Sound (store w)
     → store_mark (store w) ≡ false
     → CorrectWrite w
-    → CutPoint w.k (size w)
-    → (Accident (left w) (old w) (new w) w.payload → ⊥)
+    → Possible w.tear (size w)
+    → (AccidentBy w.tear (left w) (old w) (new w) w.payload → ⊥)
     → (out : List ℕ) → length out ≡ length (store w) * verdict_width
     → Survives w out

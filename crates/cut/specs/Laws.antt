@@ -1,6 +1,6 @@
 -- Laws on the words of the cut theorem (docs/FORMAT.md, "The sound store and the cut"). It would also hold of a store that always has the
 -- mark, of a decoder that accepts anything or of a frame that holds less; these laws would not. Each is the contract of a function.
-use Rattle.std.specs.Prelude.{◌≡◌, true, false, List, [], ◌∷◌, ◌++◌, ℕ, get_or, take, Ok, Err}
+use Rattle.std.specs.Prelude.{◌≡◌, Bool, true, false, if◌then◌else◌, List, [], ◌∷◌, ◌++◌, ℕ, ◌*◌, length, get_or, take, drop, Ok, Err}
 use Rattle.codec.specs.Bytes.{le16, le32}
 use Rattle.codec.specs.Crc32c.{crc32c}
 use Rattle.slot.specs.Payload.{payload}
@@ -13,7 +13,7 @@ use Rattle.meta.specs.Volume.{decode_volume}
 use Rattle.meta.specs.Page.{decode_page}
 use Rattle.meta.specs.declared.meta.MetaError.{MetaError}
 use Rattle.cut.specs.Store.{Volume, Page, accepts, clean_mark, Pair, slot_at, status, frames, store_mark, SoundPair}
-use Rattle.cut.specs.Cut.{Write, CorrectWrite, whole, payload_in, Accident, handed, PayloadIs}
+use Rattle.cut.specs.Cut.{Ascending, Sectors, Write, size, old, new, torn, left, CutPoint, Possible, CorrectWrite, whole, header_passes, payload_in, Accident, payload_by, SectorAccident, handed, PayloadIs}
 
 -- ---- the decoders
 
@@ -30,6 +30,19 @@ PageRefused = (index most : ℕ) (r : List ℕ) (error : MetaError) → decode_p
 -- A correct write to a sound pair: `encode` refuses nothing.
 abbrev pub Encoded : Type 0
 Encoded = (w : Write) → SoundPair w.pair → CorrectWrite w → (encode w.fields w.payload w.buffer).1 ≡ Ok (header_crc w.fields w.payload)
+
+-- ---- the cut by sectors
+
+-- Each sector of 512 bytes is wholly the new one or wholly the old one,
+abbrev pub EachSector : Type 0
+EachSector =
+    (reached : ℕ → Bool) (new old : List ℕ) → length old ≡ length new → (j : ℕ)
+    → take 512 (drop (512 * j) (torn (Sectors reached) new old))
+    ≡ (if reached j then take 512 (drop (512 * j) new) else take 512 (drop (512 * j) old))
+
+-- and any set of them may have reached the slot.
+abbrev pub AnySectors : Type 0
+AnySectors = (reached : ℕ → Bool) (size : ℕ) → Possible (Sectors reached) size
 
 -- ---- the mark
 
@@ -68,6 +81,25 @@ abbrev pub FailedPayload : Type 0
 FailedPayload =
     (s old new payload : List ℕ) → take 128 s ≡ take 128 new → (crc32c (payload_in s payload) ≡ le32 s 28 → ⊥)
     → Accident s old new payload → ⊥
+
+-- By sectors there is one more at most: under the old header a payload passes that is not the old one.
+abbrev pub OlderAtMost : Type 0
+OlderAtMost =
+    (s old new payload : List ℕ) → (Accident s old new payload → ⊥)
+    → (header_passes s ≡ true → take 128 s ≡ take 128 old → crc32c (payload_by old s) ≡ le32 s 28 → payload_by old s ≡ payload_by old old)
+    → SectorAccident s old new payload → ⊥
+
+-- In ascending order that one cannot happen: a slot with the old header is the old slot,
+abbrev pub OldHeaderKept : Type 0
+OldHeaderKept =
+    (w : Write) (k : ℕ) → SoundPair w.pair → CorrectWrite w → w.tear ≡ Ascending k → CutPoint k (size w)
+    → take 128 (left w) ≡ take 128 (old w) → left w ≡ old w
+
+-- and an accident by sectors is one of those that count in ascending order.
+abbrev pub NoneInOrder : Type 0
+NoneInOrder =
+    (w : Write) (k : ℕ) → SoundPair w.pair → CorrectWrite w → w.tear ≡ Ascending k → CutPoint k (size w)
+    → SectorAccident (left w) (old w) (new w) w.payload → Accident (left w) (old w) (new w) w.payload
 
 -- ---- the frames
 

@@ -7,7 +7,7 @@ ghost use Rattle.pair.specs.Winner.{read_pair};
 ghost use Rattle.judge.specs.Same.{NothingGiven, ChecksumGiven};
 ghost use Rattle.cut.specs.Store.{Pair};
 ghost use Rattle.cut.specs.Cut.{CutTheorem, PayloadIs};
-ghost use Rattle.cut.specs.Laws.{VolumeRefused, PageRefused, Encoded, UnmarkedRecord, UnmarkedStore, PageHanded, TornHanded, WholeHanded, FailedSum, FailedPayload, PairFrame, OnePayload, HasSlots};
+ghost use Rattle.cut.specs.Laws.{VolumeRefused, PageRefused, Encoded, EachSector, AnySectors, UnmarkedRecord, UnmarkedStore, PageHanded, TornHanded, WholeHanded, FailedSum, FailedPayload, OlderAtMost, OldHeaderKept, NoneInOrder, PairFrame, OnePayload, HasSlots};
 
 use pair::pair::PairReport;
 use slot::slot::Expect;
@@ -28,6 +28,13 @@ pub fn correct_write()
     ensures { Encoded }
 {}
 
+// What a cut by sectors leaves.
+#[tactic(auto, using(crate::proofs::SectorLaws::each_sector))]
+pub fn cut_by_sectors()
+    ensures each { EachSector }
+    ensures any { AnySectors }
+{}
+
 // When a record and a store have no clean mark.
 #[tactic(auto, using(crate::proofs::StatementLaws::unmarked_record))]
 pub fn clean_mark()
@@ -44,10 +51,18 @@ pub fn handed_mark()
 {}
 
 // What is no accident.
-#[tactic(auto, using(crate::proofs::CutLaws::failed_payload))]
+#[tactic(auto, using(crate::proofs::CutLaws::failed_payload, crate::proofs::CutLaws::older_at_most))]
 pub fn no_accident()
     ensures header { FailedSum }
     ensures payload { FailedPayload }
+    ensures older { OlderAtMost }
+{}
+
+// Where bytes reach the slot in ascending order, the accident that only sectors add cannot happen.
+#[tactic(auto, using(crate::proofs::StatementLaws::old_header_kept))]
+pub fn cut_in_order()
+    ensures kept { OldHeaderKept }
+    ensures none { NoneInOrder }
 {}
 
 // The frames are the bytes that the library fills, with what the host left in the other fields.

@@ -8,6 +8,7 @@ use Rattle.slot.specs.Read.{is_slot_length, header_sum, passes_checksum, is_malf
 use Rattle.slot.specs.Write.{header_bytes, encode}
 use Rattle.slot.specs.declared.slot.SlotIndex.{SlotIndex}
 use Rattle.slot.specs.declared.slot.SlotInfo.{SlotInfo}
+use Rattle.slot.specs.declared.slot.SlotFields.{SlotFields}
 use Rattle.pair.specs.Pair.{decide, winner_info}
 use Rattle.judge.specs.Verdict.{by_index}
 use Rattle.judge.specs.Judge.{first_verdicts, first_tally, row_rules, verdicts, judgement}
@@ -15,16 +16,17 @@ use Rattle.judge.specs.Part.{part_bytes}
 use Rattle.judge.specs.Frames.{frames_error, judge_frames, frames_left}
 use Rattle.judge.specs.Same.{filled, frames_of, mark}
 use Rattle.judge.specs.declared.records.SlotRead.{SlotRead}
+use Rattle.judge.specs.declared.records.PairRead.{PairRead}
 use Rattle.meta.specs.Volume.{volume_bytes}
 use Rattle.meta.specs.Page.{header_bytes as page_header_bytes}
-use Rattle.cut.specs.Store.{Every, Volume, Page, accepts, clean_mark, slot_read}
-use Rattle.cut.specs.Cut.{cut, left, with_bytes, with_slot, stands_whole}
+use Rattle.cut.specs.Store.{Every, Volume, Page, Pair, accepts, clean_mark, slot_at, slot_read}
+use Rattle.cut.specs.Cut.{Tear, Write, cut, left, with_bytes, with_slot, stands_whole}
 use Rattle.cut.proofs.StatementLaws.{page_handed}
-use Rattle.cut_examples.specs.Stores.{volume_record, page_record, volume_fields, volume_pair, first_page, second_fields, second_page, later_page}
-use Rattle.cut_examples.specs.Writes.{page_write, volume_write, second_write, later_write}
+use Rattle.cut_examples.specs.Stores.{volume_record, page_record, zeros_for, volume_fields, volume_pair, first_page, second_fields, second_page, later_page}
+use Rattle.cut_examples.specs.Writes.{write_to, page_write, volume_write, second_write, later_write}
 use Rattle.cut_examples.proofs.Writes.{summed_slot, summed_is, none_refused, volume_sum, second_sum, volume_handed, old_page, new_page, blank_bytes, marked_bytes, next_page, newer_slot, later_slot, old_page_is, new_page_is, marked_bytes_is, next_page_is, newer_slot_is, later_slot_is, page_accepted, volume_accepted}
 use Rattle.cut_examples.specs.Computed.{Computed, blank_read, bad_magic, torn_header, torn_payload, valid_read}
-use Rattle.cut_examples.specs.Cuts.{old_records, new_page_records, older_read, torn_page, new_read, PageCuts, torn_volume, marked_read, VolumeCuts, damaged_volume, MagicCuts, OtherCuts}
+use Rattle.cut_examples.specs.Cuts.{old_records, older_read, torn_page, new_read, PageCuts, torn_volume, marked_read, VolumeCuts, damaged_volume, MagicCuts, OtherCuts}
 use Rattle.cut_examples.proofs.SlotsRead.{PairRecord, more, none, read_once, read_once_is, framed_row, pair_record, computed_row}
 
 -- ---- the slots that are not written, as they are read
@@ -50,11 +52,11 @@ payload_sums : (crc32c (volume_record false) ≡ 0x69eb_46ec) × (crc32c (page_r
 unfolding volume_bytes page_header_bytes crc32c final_remainder remainder digest reversed
 payload_sums = (refl, refl)
 
-volume_slot_is : (encode volume_fields (volume_record false) (replicate 512 0)).0 ≡ volume_slot
-volume_slot_is = summed_is 0 SlotIndex.A 1 0 1 (volume_record false) 0x1d15_7c74 0x69eb_46ec none_refused.0 volume_sum payload_sums.0
+volume_slot_is : (encode volume_fields (volume_record false) (zeros_for volume_fields)).0 ≡ volume_slot
+volume_slot_is = summed_is volume_fields (volume_record false) 0x1d15_7c74 0x69eb_46ec none_refused.0 volume_sum payload_sums.0
 
-second_slot_is : (encode second_fields (page_record 1 0) (replicate 512 0)).0 ≡ second_slot
-second_slot_is = summed_is 2 SlotIndex.A 1 0 3 (page_record 1 0) 0x2c8c_2a3c 0x3eb4_2e60 none_refused.3 second_sum payload_sums.1
+second_slot_is : (encode second_fields (page_record 1 0) (zeros_for second_fields)).0 ≡ second_slot
+second_slot_is = summed_is second_fields (page_record 1 0) 0x2c8c_2a3c 0x3eb4_2e60 none_refused.3 second_sum payload_sums.1
 
 -- Each as it is read.
 slots_read : (read_once volume_slot volume_pair.a.expect ≡ volume_read) × (read_once blank_bytes volume_pair.b.expect ≡ blank_read)
@@ -93,33 +95,40 @@ second_page_read =
 
 -- ---- the written pairs
 
+-- How the slot that w writes is read, and its pair.
+pub record Written (w : Write) (slot : SlotRead) (x : PairRead) (r : List ℕ) : Type 0 where
+  pub slot_is : slot_read (with_bytes (left w) (slot_at w.index w.pair)) ≡ slot
+  pub pair_is : PairRecord (with_slot w.index (left w) w.pair) x r
+
+-- Where pair 1 of three is written, the frames that are filled,
+abbrev pub row_with : PairRead → List ℕ
+row_with x = frames_of (framed_row (record { a = volume_read; b = blank_read } ∷ x ∷ record { a = second_read; b = blank_read } ∷ []))
+
+-- and what is judged of them and read back.
+pub page_at : {p : Pair} {f : SlotFields} {payload : List ℕ} {tear : Tear} {slot : SlotRead} {x : PairRead} {r : List ℕ}
+    → Written (write_to (volume_pair ∷ []) p (second_page ∷ []) f payload tear) slot x r
+    → {heal : Option (ℕ × SlotIndex)} {verdict : List ℕ}
+    → judge_frames (row_with x) 0 12 ≡ Ok (record { heal = heal; writable = true; clean = false; refused = false })
+    → frames_left (row_with x) 0 (replicate 12 0) ≡ verdict
+    → Computed (write_to (volume_pair ∷ []) p (second_page ∷ []) f payload tear) slot heal false verdict (volume_record false ∷ r ∷ page_record 1 0 ∷ [])
+page_at {p} {f} {payload} {tear} written =
+    let w = write_to (volume_pair ∷ []) p (second_page ∷ []) f payload tear in
+    computed_row w {clean_mark = false} written.slot_is (more volume_pair_read (more written.pair_is (more second_page_read none)))
+    (page_handed w volume_pair [] refl)
+
 -- The page's slot A after k bytes is read as x.
-module _ (k : ℕ) (x : SlotRead) (read : read_once (cut k new_page old_page) first_page.a.expect ≡ x)
-    {index : SlotIndex} {i : SlotInfo} (won : winner_info (decide x.status newer_read.status) ≡ Some (index, i))
-    {r : List ℕ} (back : payload_of i (by_index index (cut k new_page old_page) newer_slot) ≡ r)
-    (accepted : accepts (Page 0 41) r ≡ true) where
-  page_slot_read : slot_read (with_bytes (left (page_write k)) first_page.a) ≡ x
-  page_slot_read = rw (new_page_is, old_page_is) (read_once_is (cut k new_page old_page) first_page.a.expect ∙ read)
-
-  page_pair_read : PairRecord (with_slot SlotIndex.A (left (page_write k)) first_page) (record { a = x; b = newer_read }) r
-  page_pair_read =
-      rw (new_page_is, old_page_is, newer_slot_is)
-      (pair_record (cut k new_page old_page) newer_slot first_page.a.expect first_page.b.expect (Page 0 41) (record { a = x; b = newer_read }) r
-      read slots_read.3 won back accepted)
-
-  abbrev page_row : List ℕ
-  page_row =
-      frames_of
-      (framed_row
-      (record { a = volume_read; b = blank_read } ∷ record { a = x; b = newer_read } ∷ record { a = second_read; b = blank_read } ∷ []))
-
-  page_at : {heal : Option (ℕ × SlotIndex)} {verdict : List ℕ}
-      → judge_frames page_row 0 12 ≡ Ok (record { heal = heal; writable = true; clean = false; refused = false })
-      → frames_left page_row 0 (replicate 12 0) ≡ verdict
-      → Computed (page_write k) x heal false verdict (volume_record false ∷ r ∷ page_record 1 0 ∷ [])
-  page_at =
-      computed_row (page_write k) {clean_mark = false} page_slot_read (more volume_pair_read (more page_pair_read (more second_page_read none)))
-      (page_handed (page_write k) volume_pair [] refl)
+page_read : (k : ℕ) (x : SlotRead) → read_once (cut k new_page old_page) first_page.a.expect ≡ x
+    → {index : SlotIndex} {i : SlotInfo} → winner_info (decide x.status newer_read.status) ≡ Some (index, i)
+    → {r : List ℕ} → payload_of i (by_index index (cut k new_page old_page) newer_slot) ≡ r → accepts (Page 0 41) r ≡ true
+    → Written (page_write k) x (record { a = x; b = newer_read }) r
+page_read k x read won {r} back accepted =
+    record {
+      slot_is = rw (new_page_is, old_page_is) (read_once_is (cut k new_page old_page) first_page.a.expect ∙ read);
+      pair_is =
+          rw (new_page_is, old_page_is, newer_slot_is)
+          (pair_record (cut k new_page old_page) newer_slot first_page.a.expect first_page.b.expect (Page 0 41) (record { a = x; b = newer_read }) r
+          read slots_read.3 won back accepted);
+    }
 
 -- The volume record's slot B after k bytes is read as x, and the judge is handed the mark.
 module _ (k : ℕ) (x : SlotRead) (read : read_once (cut k marked_bytes blank_bytes) volume_pair.b.expect ≡ x)
@@ -165,31 +174,18 @@ torn_pair_read =
     (record { a = second_read; b = torn_second }) (page_record 1 0) slots_read.4 torn_second_read refl refl page_accepted.4)
 
 -- The first page's slot B after k bytes is read as x, and A of generation 3 is the winner.
-module _ (k : ℕ) (x : SlotRead) (read : read_once (cut k later_slot newer_slot) later_page.b.expect ≡ x)
-    {i : SlotInfo} (won : winner_info (decide new_read.status x.status) ≡ Some (SlotIndex.A, i))
-    (back : payload_of i new_page ≡ page_record 0 0x304) where
-  later_slot_read : slot_read (with_bytes (left (later_write k)) later_page.b) ≡ x
-  later_slot_read = rw (newer_slot_is, later_slot_is) (read_once_is (cut k later_slot newer_slot) later_page.b.expect ∙ read)
-
-  later_pair_read : PairRecord (with_slot SlotIndex.B (left (later_write k)) later_page) (record { a = new_read; b = x }) (page_record 0 0x304)
-  later_pair_read =
-      rw (new_page_is, newer_slot_is, later_slot_is)
-      (pair_record new_page (cut k later_slot newer_slot) later_page.a.expect later_page.b.expect (Page 0 41) (record { a = new_read; b = x })
-      (page_record 0 0x304) slots_read.6 read won back page_accepted.2)
-
-  abbrev later_row : List ℕ
-  later_row =
-      frames_of
-      (framed_row
-      (record { a = volume_read; b = blank_read } ∷ record { a = new_read; b = x } ∷ record { a = second_read; b = blank_read } ∷ []))
-
-  later_at : {heal : Option (ℕ × SlotIndex)} {verdict : List ℕ}
-      → judge_frames later_row 0 12 ≡ Ok (record { heal = heal; writable = true; clean = false; refused = false })
-      → frames_left later_row 0 (replicate 12 0) ≡ verdict
-      → Computed (later_write k) x heal false verdict new_page_records
-  later_at =
-      computed_row (later_write k) {clean_mark = false} later_slot_read (more volume_pair_read (more later_pair_read (more second_page_read none)))
-      (page_handed (later_write k) volume_pair [] refl)
+later_read : (k : ℕ) (x : SlotRead) → read_once (cut k later_slot newer_slot) later_page.b.expect ≡ x
+    → {i : SlotInfo} → winner_info (decide new_read.status x.status) ≡ Some (SlotIndex.A, i)
+    → payload_of i new_page ≡ page_record 0 0x304
+    → Written (later_write k) x (record { a = new_read; b = x }) (page_record 0 0x304)
+later_read k x read won back =
+    record {
+      slot_is = rw (newer_slot_is, later_slot_is) (read_once_is (cut k later_slot newer_slot) later_page.b.expect ∙ read);
+      pair_is =
+          rw (new_page_is, newer_slot_is, later_slot_is)
+          (pair_record new_page (cut k later_slot newer_slot) later_page.a.expect later_page.b.expect (Page 0 41) (record { a = new_read; b = x })
+          (page_record 0 0x304) slots_read.6 read won back page_accepted.2);
+    }
 
 -- ---- the cuts
 
@@ -197,15 +193,15 @@ pub page_computed : PageCuts
 unfolding cut is_slot_length check passes_checksum is_malformed passes_payload payload_of header_sum header_bytes page_header_bytes le crc32c final_remainder remainder digest reversed decide filled part_bytes judge_frames frames_left frames_error judgement verdicts row_rules first_verdicts first_tally
 page_computed =
     record {
-      page_0 = page_at 0 older_read page_ends.0 refl refl page_accepted.1 refl refl;
-      page_8 = page_at 8 older_read refl refl refl page_accepted.1 refl refl;
-      page_11 = page_at 11 (torn_header 0x581e_00d0) refl refl refl page_accepted.1 refl refl;
-      page_64 = page_at 64 (torn_header 0xd61e_00d0) refl refl refl page_accepted.1 refl refl;
-      page_127 = page_at 127 torn_page refl refl refl page_accepted.1 refl refl;
-      page_128 = page_at 128 torn_page refl refl refl page_accepted.1 refl refl;
-      page_133 = page_at 133 torn_page refl refl refl page_accepted.1 refl refl;
-      page_134 = page_at 134 new_read refl refl refl page_accepted.2 refl refl;
-      page_512 = page_at 512 new_read page_ends.1 refl refl page_accepted.2 refl refl;
+      page_0 = page_at (page_read 0 older_read page_ends.0 refl refl page_accepted.1) refl refl;
+      page_8 = page_at (page_read 8 older_read refl refl refl page_accepted.1) refl refl;
+      page_11 = page_at (page_read 11 (torn_header 0x581e_00d0) refl refl refl page_accepted.1) refl refl;
+      page_64 = page_at (page_read 64 (torn_header 0xd61e_00d0) refl refl refl page_accepted.1) refl refl;
+      page_127 = page_at (page_read 127 torn_page refl refl refl page_accepted.1) refl refl;
+      page_128 = page_at (page_read 128 torn_page refl refl refl page_accepted.1) refl refl;
+      page_133 = page_at (page_read 133 torn_page refl refl refl page_accepted.1) refl refl;
+      page_134 = page_at (page_read 134 new_read refl refl refl page_accepted.2) refl refl;
+      page_512 = page_at (page_read 512 new_read page_ends.1 refl refl page_accepted.2) refl refl;
     }
 
 pub volume_computed : VolumeCuts
@@ -228,8 +224,8 @@ other_computed =
       second_140 =
           computed_row (second_write 140) {clean_mark = false} (rw next_page_is (read_once_is (cut 140 next_page blank_bytes) second_page.b.expect ∙ torn_second_read))
           (more volume_pair_read (more first_page_read (more torn_pair_read none))) (page_handed (second_write 140) volume_pair (first_page ∷ []) refl) refl refl;
-      later_64 = later_at 64 (torn_header 0xe83c_e718) refl refl refl refl refl;
-      later_133 = later_at 133 (torn_payload 4 6 0xe83c_e718 0xd61e_00d0) refl refl refl refl refl;
+      later_64 = page_at (later_read 64 (torn_header 0xe83c_e718) refl refl refl) refl refl;
+      later_133 = page_at (later_read 133 (torn_payload 4 6 0xe83c_e718 0xd61e_00d0) refl refl refl) refl refl;
     }
 
 -- ---- what the theorem leaves out

@@ -1,3 +1,4 @@
 pub mod Writes
 pub mod SlotsRead
 pub mod Computed
+pub mod LongWrites

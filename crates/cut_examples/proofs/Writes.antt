@@ -1,11 +1,12 @@
 -- What specs/Writes.antt says of the stores and the writes. The slots are what `encode` writes; the checksums are computed.
-use Rattle.std.proofs.Common.{◌≡◌, refl, sym, ap, subst, ◌∙◌, inl, inr, Bool, true, false, cond, not, nat_eq, ◌==◌, List, [], ◌∷◌, ◌++◌, ℕ, ◌+◌, ◌-◌, ◌*◌, ◌^◌, ◌≤◌, ◌<◌, max, arith, leb-true, eqb-true, eq-eqb, leb, eqb, lit≤, lit<, length, get_or, take, replicate, Some, Result, Ok}
+use Rattle.std.proofs.Common.{◌≡◌, refl, sym, ap, subst, ◌∙◌, inl, inr, Bool, true, false, cond, not, nat_eq, ◌==◌, List, [], ◌∷◌, ◌++◌, ℕ, ◌+◌, ◌-◌, ◌^◌, ◌≤◌, ◌<◌, max, arith, leb-true, eqb-true, eq-eqb, leb, eqb, lit≤, lit<, length, get_or, take, replicate, Some, Result, Ok}
+use Rattle.std.proofs.Math.ListN.{length-replicate}
 use borrow.Author.Tests.{not-true}
 use lib.Pointwise.{pointwise, bytes_decides}
 use Rattle.codec.specs.Bytes.{AllBytes, le, le16, le32}
 use Rattle.codec.specs.Crc32c.{crc32c, final_remainder, remainder, digest, reversed}
 use Rattle.codec.proofs.ByteLaws.{append-bytes, zero-bytes, number_bytes}
-use Rattle.slot.specs.Status.{index_number, other}
+use Rattle.slot.specs.Status.{other}
 use Rattle.slot.specs.Payload.{payload as payload_of}
 use Rattle.slot.specs.Read.{header_sum, is_slot_length, number_ok, validate}
 use Rattle.slot.specs.Write.{header_bytes, header_crc, written_header, slot_bytes, encode_check, encoded, encode}
@@ -24,87 +25,89 @@ use Rattle.meta.specs.Base.{base_at, check_base}
 use Rattle.meta.specs.Volume.{tail_at, check_tail, check_volume, decode_volume, volume_bytes as volume_record_bytes}
 use Rattle.meta.specs.Page.{header_at, decode_page, entries, header_row as page_header_row, header_bytes as page_header_bytes}
 use Rattle.cut.specs.Store.{Every, Decoder, Volume, Page, accepts, clean_mark, Pair, slot_at, status, report, shown, store_mark, Typed, SoundSlot, Beside, SoundPair, Sound}
-use Rattle.cut.specs.Cut.{Write, store, size, old, new, cut, CutPoint, CorrectWrite, stands_whole, whole, payload_in, Accident, handed}
-use Rattle.cut_examples.specs.Stores.{volume_record, page_record, rest, fields, read_with, written_slot, blank_slot, volume_fields, volume_pair, older_fields, newer_fields, first_page, second_fields, second_page, new_fields, later_page, first_store, later_store}
-use Rattle.cut_examples.specs.Writes.{IsMet, StoresSound, MetIsEnough, write_to, page_write, marked_fields, volume_write, next_fields, second_write, later_fields, later_write, PageMet, VolumeMet, SecondMet, LaterMet, StandsWhole, MarkHanded}
+use Rattle.cut.specs.Cut.{Tear, Ascending, Sectors, Write, store, size, old, new, cut, torn, CutPoint, Possible, CorrectWrite, stands_whole, whole, payload_in, Accident, payload_by, SectorAccident, AccidentBy, handed}
+use Rattle.cut_examples.specs.Stores.{volume_record, page_record, rest, fields, read_with, zeros_for, written_slot, blank_slot, volume_fields, volume_pair, older_fields, newer_fields, first_page, second_fields, second_page, new_fields, later_page, first_store, later_store}
+use Rattle.cut_examples.specs.Writes.{IsMet, MetIsEnough, write_to, page_write, marked_fields, volume_write, next_fields, second_write, later_fields, later_write, PageMet, VolumeMet, SecondMet, LaterMet, StandsWhole, MarkHanded}
 use Rattle.cut.proofs.ByteLaws.{bytes_tested, row_bytes, slot_all_bytes}
 use Rattle.cut.proofs.StatusLaws.{false_true}
 use Rattle.cut.proofs.PairLaws.{valid_number, blank_number, sound_won}
-use Rattle.cut.proofs.CutLaws.{differ, failed_sum, failed_payload}
+use Rattle.cut.proofs.CutLaws.{differ, failed_sum, failed_payload, older_at_most}
 use Rattle.cut.proofs.StatementLaws.{unmarked_store, torn_handed, whole_handed}
 use Rattle.cut.proofs.Theorem.{cut_theorem}
 
--- ---- slots of 512 bytes
-
-index_offset : (object : ℕ) (index : SlotIndex) → object ≤ 2 → 1024 * object + 512 * index_number index < 2 ^ 64
-index_offset object SlotIndex.A small = omega arith
-index_offset object SlotIndex.B small = omega arith
+-- ---- slots as they are written
 
 -- What is known of a slot that `encode` wrote, in a pair with a decoder.
-record Known (f : SlotFields) (payload : List ℕ) (decoder : Decoder) : Type 0 where
+pub record Known (f : SlotFields) (payload : List ℕ) (decoder : Decoder) : Type 0 where
   pub slot : SoundSlot (written_slot f payload)
   pub valid : status (written_slot f payload) ≡ SlotStatus.Valid (info_of f payload)
   pub record_is : payload_of (info_of f payload) (written_slot f payload).bytes ≡ payload
   pub accepted : accepts decoder (payload_of (info_of f payload) (written_slot f payload).bytes) ≡ true
 
-module _ (object : ℕ) (index : SlotIndex) (generation prev number : ℕ) (object_small : object ≤ 2) where
+module _ (log2 object : ℕ) (index : SlotIndex) (generation prev number : ℕ) where
   abbrev f : SlotFields
-  f = fields object index generation prev number
+  f = fields log2 object index generation prev number
 
-  typed_with : (bytes : List ℕ) → AllBytes bytes → Typed (record { bytes = bytes; expect = read_with f; rest = rest })
-  typed_with bytes all =
+  pub fields_fit : log2 < 2 ^ 8 → object < 2 ^ 64 → generation < 2 ^ 64 → f.slot_offset < 2 ^ 64 → prev < 2 ^ 32 → number < 2 ^ 64 → Fits f
+  fields_fit log2_fits object_fits generation_fits offset_fits prev_fits number_fits =
       record {
-        bytes = all;
         volume = refl;
-        volume_bytes = bytes_tested (replicate 16 7) refl;
-        object = omega arith;
-        offset = index_offset object index object_small;
-        generation = lit< tt;
-        number = lit< tt;
-        own = lit< tt;
-        prev = lit< tt;
+        object = object_fits;
+        generation = generation_fits;
+        owner = lit< tt;
+        offset = offset_fits;
+        log2 = log2_fits;
+        prev = prev_fits;
+        format = lit< tt;
+        number = number_fits;
+        compat = lit< tt;
       }
 
-  module _ (generation_fits : generation < 2 ^ 64) (prev_fits : prev < 2 ^ 32) (number_fits : number < 2 ^ 64) where
-    fields_fit : Fits f
-    fields_fit =
+  module _ (fits : Fits f) where
+    typed_with : (bytes : List ℕ) → AllBytes bytes → Typed (record { bytes = bytes; expect = read_with f; rest = rest })
+    typed_with bytes all =
         record {
+          bytes = all;
           volume = refl;
-          object = omega arith;
-          generation = generation_fits;
-          owner = lit< tt;
-          offset = index_offset object index object_small;
-          log2 = lit< tt;
-          prev = prev_fits;
-          format = lit< tt;
-          number = number_fits;
-          compat = lit< tt;
+          volume_bytes = bytes_tested (replicate 16 7) refl;
+          object = fits.object;
+          offset = fits.offset;
+          generation = lit< tt;
+          number = lit< tt;
+          own = lit< tt;
+          prev = lit< tt;
         }
 
-    module _ (payload : List ℕ) (all : AllBytes payload) (none : encode_check f payload 512 ≡ Ok tt) (numbered : number_ok 2 true number ≡ true) where
-      back : IsReadBack (encode f payload (replicate 512 0)).0 f payload true
-      back = round_trip.written f payload (replicate 512 0) true fields_fit none numbered
+    module _ (payload : List ℕ) (all : AllBytes payload) (none : encode_check f payload (2 ^ log2) ≡ Ok tt) (numbered : number_ok 2 true number ≡ true) where
+      room_is : length (zeros_for f) ≡ 2 ^ log2
+      room_is = length-replicate (2 ^ log2) 0
 
-      written_bytes : AllBytes (encode f payload (replicate 512 0)).0
+      none_for : encode_check f payload (length (zeros_for f)) ≡ Ok tt
+      none_for = ap (encode_check f payload) room_is ∙ none
+
+      back : IsReadBack (encode f payload (zeros_for f)).0 f payload true
+      back = round_trip.written f payload (zeros_for f) true fits none_for numbered
+
+      written_bytes : AllBytes (encode f payload (zeros_for f)).0
       unfolding encode
       written_bytes =
-          subst AllBytes (sym (ap (λ (answer : Result (Unit {0}) EncodeError). (encoded f payload (replicate 512 0) answer).0) none))
+          subst AllBytes (sym (ap (λ (answer : Result (Unit {0}) EncodeError). (encoded f payload (zeros_for f) answer).0) none_for))
           (slot_all_bytes f payload (bytes_tested (replicate 16 7) refl) all)
 
-      written_known : (decoder : Decoder) → accepts decoder payload ≡ true → Known f payload decoder
+      pub written_known : (decoder : Decoder) → accepts decoder payload ≡ true → Known f payload decoder
       written_known decoder takes =
           record {
-            slot = record { typed = typed_with (encode f payload (replicate 512 0)).0 written_bytes; format = refl; numbered = refl };
+            slot = record { typed = typed_with (encode f payload (zeros_for f)).0 written_bytes; format = refl; numbered = refl };
             valid = back.valid;
             record_is = back.payload_same;
             accepted = ap (accepts decoder) back.payload_same ∙ takes;
           }
 
-blank_sound : (object : ℕ) (index : SlotIndex) → object ≤ 2 → SoundSlot (blank_slot object index)
-blank_sound object index small =
+blank_sound : (object : ℕ) (index : SlotIndex) → Fits (fields 9 object index 0 0 0) → SoundSlot (blank_slot object index)
+blank_sound object index fits =
     record {
       typed =
-          typed_with object index 0 0 0 small (replicate 128 0 ++ replicate 384 9)
+          typed_with 9 object index 0 0 0 fits (replicate 128 0 ++ replicate 384 9)
           (append-bytes (replicate 128 0) (replicate 384 9) (zero-bytes 128) (bytes_tested (replicate 384 9) refl));
       format = refl;
       numbered = refl;
@@ -161,34 +164,49 @@ none_refused = (refl, refl, refl, refl)
 numbers_ok : (number_ok 2 true 1 ≡ true) × (number_ok 2 true 2 ≡ true) × (number_ok 2 true 3 ≡ true) × (number_ok 2 true 4 ≡ true)
 numbers_ok = (refl, refl, refl, refl)
 
+volume_fits : Fits volume_fields
+volume_fits = fields_fit 9 0 SlotIndex.A 1 0 1 (lit< tt) (lit< tt) (lit< tt) (lit< tt) (lit< tt) (lit< tt)
+
+older_fits : Fits older_fields
+older_fits = fields_fit 9 1 SlotIndex.A 1 0 2 (lit< tt) (lit< tt) (lit< tt) (lit< tt) (lit< tt) (lit< tt)
+
+newer_fits : Fits newer_fields
+newer_fits = fields_fit 9 1 SlotIndex.B 2 0x588e_9174 4 (lit< tt) (lit< tt) (lit< tt) (lit< tt) (lit< tt) (lit< tt)
+
+second_fits : Fits second_fields
+second_fits = fields_fit 9 2 SlotIndex.A 1 0 3 (lit< tt) (lit< tt) (lit< tt) (lit< tt) (lit< tt) (lit< tt)
+
+blank_fits : (object : ℕ) → object ≤ 2 → Fits (fields 9 object SlotIndex.B 0 0 0)
+blank_fits object small = fields_fit 9 object SlotIndex.B 0 0 0 (lit< tt) (omega arith) (lit< tt) (omega arith) (lit< tt) (lit< tt)
+
 volume_known : Known volume_fields (volume_record false) Volume
 volume_known =
-    written_known 0 SlotIndex.A 1 0 1 (lit≤ tt) (lit< tt) (lit< tt) (lit< tt) (volume_record false) volume_bytes.0 none_refused.0 numbers_ok.0 Volume
+    written_known 9 0 SlotIndex.A 1 0 1 volume_fits (volume_record false) volume_bytes.0 none_refused.0 numbers_ok.0 Volume
     volume_accepted.0
 
 older_known : Known older_fields (page_record 0 1) (Page 0 41)
 older_known =
-    written_known 1 SlotIndex.A 1 0 2 (lit≤ tt) (lit< tt) (lit< tt) (lit< tt) (page_record 0 1) (page_bytes 0 1) none_refused.1 numbers_ok.1
+    written_known 9 1 SlotIndex.A 1 0 2 older_fits (page_record 0 1) (page_bytes 0 1) none_refused.1 numbers_ok.1
     (Page 0 41) page_accepted.0
 
 newer_known : Known newer_fields (page_record 0 2) (Page 0 41)
 newer_known =
-    written_known 1 SlotIndex.B 2 0x588e_9174 4 (lit≤ tt) (lit< tt) (lit< tt) (lit< tt) (page_record 0 2) (page_bytes 0 2) none_refused.2
+    written_known 9 1 SlotIndex.B 2 0x588e_9174 4 newer_fits (page_record 0 2) (page_bytes 0 2) none_refused.2
     numbers_ok.3 (Page 0 41) page_accepted.1
 
 second_known : Known second_fields (page_record 1 0) (Page 1 41)
 second_known =
-    written_known 2 SlotIndex.A 1 0 3 (lit≤ tt) (lit< tt) (lit< tt) (lit< tt) (page_record 1 0) (page_bytes 1 0) none_refused.3 numbers_ok.2
+    written_known 9 2 SlotIndex.A 1 0 3 second_fits (page_record 1 0) (page_bytes 1 0) none_refused.3 numbers_ok.2
     (Page 1 41) page_accepted.4
 
 -- A of generation 1, B Blank.
-first_written : (object number : ℕ) (payload : List ℕ) (decoder : Decoder) → object ≤ 2 → Known (fields object SlotIndex.A 1 0 number) payload decoder
-    → SoundPair (record { a = written_slot (fields object SlotIndex.A 1 0 number) payload; b = blank_slot object SlotIndex.B; decoder = decoder })
+first_written : (object number : ℕ) (payload : List ℕ) (decoder : Decoder) → object ≤ 2 → Known (fields 9 object SlotIndex.A 1 0 number) payload decoder
+    → SoundPair (record { a = written_slot (fields 9 object SlotIndex.A 1 0 number) payload; b = blank_slot object SlotIndex.B; decoder = decoder })
 first_written object number payload decoder small known =
     record {
-      slots = elim [ SlotIndex.A ↦ known.slot | SlotIndex.B ↦ blank_sound object SlotIndex.B small ];
+      slots = elim [ SlotIndex.A ↦ known.slot | SlotIndex.B ↦ blank_sound object SlotIndex.B (blank_fits object small) ];
       newer = SlotIndex.A;
-      info = info_of (fields object SlotIndex.A 1 0 number) payload;
+      info = info_of (fields 9 object SlotIndex.A 1 0 number) payload;
       valid = known.valid;
       accepted = known.accepted;
       beside = Beside.first refl refl (blank_status object SlotIndex.B);
@@ -218,17 +236,17 @@ second_sound = first_written 2 3 (page_record 1 0) (Page 1 41) (lit≤ tt) secon
 abbrev store_with : Pair → List Pair
 store_with p = volume_pair ∷ p ∷ second_page ∷ []
 
-sound_with : (p : Pair) → p.decoder ≡ Page 0 41 → SoundPair p → Sound (store_with p)
+pub sound_with : (p : Pair) → p.decoder ≡ Page 0 41 → SoundPair p → Sound (store_with p)
 sound_with p page sound =
     Sound.row refl
     (Every.more (record { index = 0; most = 41; decoder = page }) (Every.more (record { index = 1; most = 41; decoder = refl }) Every.none))
     (Every.more volume_sound (Every.more sound (Every.more second_sound Every.none)))
 
-unmarked_with : (p : Pair) → store_mark (store_with p) ≡ false
+pub unmarked_with : (p : Pair) → store_mark (store_with p) ≡ false
 unfolding volume_sound first_written volume_record_bytes
 unmarked_with p = unmarked_store volume_pair (p ∷ second_page ∷ []) volume_sound (ap (λ (r : List ℕ). get_or r 54 0) volume_known.record_is)
 
-highest_with : (p : Pair) (i j : SlotInfo) → status p.a ≡ SlotStatus.Valid i → status p.b ≡ SlotStatus.Valid j
+pub highest_with : (p : Pair) (i j : SlotInfo) → status p.a ≡ SlotStatus.Valid i → status p.b ≡ SlotStatus.Valid j
     → highest (slots (shown (store_with p))) ≡ max 1 (max 0 (max i.meta_seq (max j.meta_seq 3)))
 highest_with p i j valid_a valid_b =
     simp (
@@ -240,7 +258,7 @@ highest_with p i j valid_a valid_b =
       blank_number second_page SlotIndex.B (blank_status 2 SlotIndex.B),
     )
 
-sound : Sound first_store
+pub sound : Sound first_store
 sound = sound_with first_page refl first_sound
 
 highest_number : highest (slots (shown first_store)) ≡ 4
@@ -278,49 +296,83 @@ safe_none s before after payload =
         failed_sum s before after payload (differ (take 128 s) (take 128 after) is_new)
         (λ stored. false_true {A = ⊥} (not-true _ test) (eq-eqb _ _ stored)) accident
 
--- The tests of a cut: k is 0 or from 8 to the slot's size, and there is no accident.
-abbrev point_test : ℕ → Bool
-point_test k = cond (eqb k 0) true (cond (leb 8 k) (leb k 512) false)
+-- Under the old header no payload but the old one passes.
+abbrev older_safe : List ℕ → List ℕ → Bool
+older_safe s before =
+    cond (pointwise nat_eq (take 128 s) (take 128 before))
+    (cond (pointwise nat_eq (payload_by before s) (payload_by before before)) true (not (crc32c (payload_by before s) == le32 s 28))) true
 
-abbrev cut_tests : ℕ → List ℕ → List ℕ → List ℕ → Bool
-cut_tests k after before payload = cond (point_test k) (safe (cut k after before) before after payload) false
-
-point : (k : ℕ) → point_test k ≡ true → CutPoint k 512
-point k = go (eqb k 0) refl (leb 8 k) refl
+older_kept : (s before : List ℕ) → older_safe s before ≡ true
+    → take 128 s ≡ take 128 before → crc32c (payload_by before s) ≡ le32 s 28 → payload_by before s ≡ payload_by before before
+older_kept s before test same_header sum =
+    go (pointwise nat_eq (take 128 s) (take 128 before)) ((bytes_decides (take 128 s) (take 128 before)).1 same_header)
+    (pointwise nat_eq (payload_by before s) (payload_by before before)) refl test
   where
-    go : (none : Bool) → eqb k 0 ≡ none → (from_8 : Bool) → leb 8 k ≡ from_8 → cond none true (cond from_8 (leb k 512) false) ≡ true → CutPoint k 512
+    go : (x : Bool) → x ≡ true → (y : Bool) → pointwise nat_eq (payload_by before s) (payload_by before before) ≡ y
+        → cond x (cond y true (not (crc32c (payload_by before s) == le32 s 28))) true ≡ true
+        → payload_by before s ≡ payload_by before before
+    go true is true same test = (bytes_decides (payload_by before s) (payload_by before before)).0 same
+    go true is false other test = false_true (not-true _ test) (eq-eqb _ _ sum)
+    go false is y same test = false_true refl is
+
+-- The tests of a cut of a slot of some size: k is 0 or from 8 to that size, and there is no accident.
+abbrev point_test : ℕ → ℕ → Bool
+point_test size k = cond (eqb k 0) true (cond (leb 8 k) (leb k size) false)
+
+abbrev pub tear_tests : ℕ → Tear → List ℕ → List ℕ → List ℕ → Bool
+tear_tests size (Ascending k) after before payload = cond (point_test size k) (safe (torn (Ascending k) after before) before after payload) false
+tear_tests size (Sectors reached) after before payload =
+    cond (older_safe (torn (Sectors reached) after before) before) (safe (torn (Sectors reached) after before) before after payload) false
+
+point : (size k : ℕ) → point_test size k ≡ true → CutPoint k size
+point size k = go (eqb k 0) refl (leb 8 k) refl
+  where
+    go : (none : Bool) → eqb k 0 ≡ none → (from_8 : Bool) → leb 8 k ≡ from_8 → cond none true (cond from_8 (leb k size) false) ≡ true → CutPoint k size
     go true none from_8 from test = inl (eqb-true k 0 none)
-    go false none true from test = inr (leb-true 8 k from, leb-true k 512 test)
+    go false none true from test = inr (leb-true 8 k from, leb-true k size test)
     go false none false from test = false_true refl test
 
-module _ (w : Write) (sound_store : Sound (store w)) (no_mark : store_mark (store w) ≡ false) (right : CorrectWrite w) (small : size w ≡ 512)
+-- They are enough.
+module _ (size : ℕ) (before after payload : List ℕ) where
+  pub tested : (tear : Tear) → tear_tests size tear after before payload ≡ true
+      → Possible tear size × (AccidentBy tear (torn tear after before) before after payload → ⊥)
+  tested (Ascending k) = go (point_test size k) refl
+    where
+      go : (in_range : Bool) → point_test size k ≡ in_range → cond in_range (safe (torn (Ascending k) after before) before after payload) false ≡ true
+          → CutPoint k size × (Accident (torn (Ascending k) after before) before after payload → ⊥)
+      go true is test = (point size k is, safe_none (torn (Ascending k) after before) before after payload test)
+      go false is test = false_true refl test
+  tested (Sectors reached) = go (older_safe (torn (Sectors reached) after before) before) refl
+    where
+      go : (kept : Bool) → older_safe (torn (Sectors reached) after before) before ≡ kept
+          → cond kept (safe (torn (Sectors reached) after before) before after payload) false ≡ true
+          → Unit {0} × (SectorAccident (torn (Sectors reached) after before) before after payload → ⊥)
+      go true is test = (
+        tt,
+        older_at_most (torn (Sectors reached) after before) before after payload (safe_none (torn (Sectors reached) after before) before after payload test)
+            (λ passes. older_kept (torn (Sectors reached) after before) before is),
+      )
+      go false is test = false_true refl test
+
+module _ (w : Write) (sound_store : Sound (store w)) (no_mark : store_mark (store w) ≡ false) (right : CorrectWrite w)
     (before after : List ℕ) (old_is : old w ≡ before) (new_is : new w ≡ after) where
   -- Of a correct write to a sound store with no mark the tests are all that is left.
-  met_by : cut_tests w.k after before w.payload ≡ true → IsMet w
-  met_by tests = go (point_test w.k) refl tests
-    where
-      go : (in_range : Bool) → point_test w.k ≡ in_range → cond in_range (safe (cut w.k after before) before after w.payload) false ≡ true → IsMet w
-      go false is test = false_true refl test
-      go true is test =
-          record {
-            sound = sound_store;
-            unmarked = no_mark;
-            correct = right;
-            point = rw small (point w.k is);
-            none = rw (new_is, old_is) (safe_none (cut w.k after before) before after w.payload test);
-          }
+  pub met_by : tear_tests (size w) w.tear after before w.payload ≡ true → IsMet w
+  met_by tests =
+      let no_accident = tested (size w) before after w.payload w.tear tests in
+      record { sound = sound_store; unmarked = no_mark; correct = right; possible = no_accident.0; none = rw (new_is, old_is) no_accident.1 }
 
 -- ---- writes
 
 -- The identity is that of the slot, and the number is one above the highest n of the store.
 module _ (before : List Pair) (p : Pair) (behind : List Pair) {n : ℕ} (highest_is : highest (slots (shown (before ++ p ∷ behind))) ≡ n)
-    (f : SlotFields) (fits : Fits f) (format : f.format_major ≡ 2) (log2 : f.log2_slot_size ≡ 9) (number : f.meta_seq ≡ n + 1)
+    (f : SlotFields) (fits : Fits f) (format : f.format_major ≡ 2) (number : f.meta_seq ≡ n + 1)
     (asked : read_with f ≡ (slot_at f.slot_index p).expect) where
-  write_correct : (i : SlotInfo) → winner_info (report p) ≡ Some ((other f.slot_index), i)
+  pub write_correct : (i : SlotInfo) → winner_info (report p) ≡ Some ((other f.slot_index), i)
       → f.generation ≡ i.generation + 1 → f.prev_header_crc32c ≡ i.header_crc32c
-      → (payload : List ℕ) → AllBytes payload → accepts p.decoder payload ≡ true → 128 + length payload ≤ 512
-      → (k : ℕ) → CorrectWrite (write_to before p behind f payload k)
-  write_correct i won generation prev payload payload_bytes accepted room k =
+      → (payload : List ℕ) → AllBytes payload → accepts p.decoder payload ≡ true → 128 + length payload ≤ 2 ^ f.log2_slot_size
+      → (tear : Tear) → CorrectWrite (write_to before p behind f payload tear)
+  write_correct i won generation prev payload payload_bytes accepted room tear =
       record {
         winner = i;
         won = won;
@@ -339,34 +391,36 @@ module _ (before : List Pair) (p : Pair) (behind : List Pair) {n : ℕ} (highest
         compat = fits.compat;
         bytes = payload_bytes;
         accepted = accepted;
-        fits = rw log2 room;
-        room = rw log2 refl;
+        fits = room;
+        room = length-replicate (2 ^ f.log2_slot_size) 0;
       }
 
 -- A slot with its checksums as numbers.
 abbrev pub summed_slot : ℕ → ℕ → SlotFields → List ℕ → List ℕ
-summed_slot crc payload_crc f payload = header_bytes crc f (length payload) payload_crc ++ (payload ++ replicate (512 - 128 - length payload) 0)
+summed_slot crc payload_crc f payload =
+    header_bytes crc f (length payload) payload_crc ++ (payload ++ replicate (2 ^ f.log2_slot_size - 128 - length payload) 0)
 
-pub summed_is : (object : ℕ) (index : SlotIndex) (generation prev number : ℕ) (payload : List ℕ) (crc payload_crc : ℕ)
-    → encode_check (fields object index generation prev number) payload 512 ≡ Ok tt
-    → header_crc (fields object index generation prev number) payload ≡ crc → crc32c payload ≡ payload_crc
-    → (encode (fields object index generation prev number) payload (replicate 512 0)).0
-    ≡ summed_slot crc payload_crc (fields object index generation prev number) payload
+pub summed_is : (f : SlotFields) (payload : List ℕ) (crc payload_crc : ℕ)
+    → encode_check f payload (2 ^ f.log2_slot_size) ≡ Ok tt
+    → header_crc f payload ≡ crc → crc32c payload ≡ payload_crc
+    → (encode f payload (zeros_for f)).0 ≡ summed_slot crc payload_crc f payload
 unfolding encode slot_bytes written_header
-summed_is object index generation prev number payload crc payload_crc none sum payload_sum =
-    ap (λ (answer : Result (Unit {0}) EncodeError). (encoded (fields object index generation prev number) payload (replicate 512 0) answer).0) none
+summed_is f payload crc payload_crc none sum payload_sum =
+    ap (λ (answer : Result (Unit {0}) EncodeError). (encoded f payload (zeros_for f) answer).0) (ap (encode_check f payload) (length-replicate (2 ^ f.log2_slot_size) 0) ∙ none)
     ∙ simp (sum, payload_sum)
 
 -- ---- a write to a page
 
+new_fits : Fits new_fields
+new_fits = fields_fit 9 1 SlotIndex.A 3 0xe83c_e718 5 (lit< tt) (lit< tt) (lit< tt) (lit< tt) (lit< tt) (lit< tt)
+
 page_correct : (k : ℕ) → CorrectWrite (page_write k)
 unfolding first_sound
-page_correct =
-    write_correct (volume_pair ∷ []) first_page (second_page ∷ []) highest_number new_fields
-    (fields_fit 1 SlotIndex.A 3 0xe83c_e718 5 (lit≤ tt) (lit< tt) (lit< tt) (lit< tt)) refl refl refl refl
+page_correct k =
+    write_correct (volume_pair ∷ []) first_page (second_page ∷ []) highest_number new_fields new_fits refl refl refl
     (info_of newer_fields (page_record 0 2)) (sound_won first_page first_sound) refl (sym newer_sums.0) (page_record 0 0x304) (page_bytes 0 0x304)
     page_accepted.2
-    (page_fits 0 0x304)
+    (page_fits 0 0x304) (Ascending k)
 
 new_sums : (header_crc new_fields (page_record 0 0x304) ≡ 0xd61e_00d0) × (crc32c (page_record 0 0x304) ≡ 0x9755_91c2)
 unfolding header_crc header_bytes page_header_bytes crc32c final_remainder remainder digest reversed
@@ -382,14 +436,14 @@ old_page = summed_slot 0x588e_9174 0xb3b8_1b53 older_fields (page_record 0 1)
 abbrev pub new_page : List ℕ
 new_page = summed_slot 0xd61e_00d0 0x9755_91c2 new_fields (page_record 0 0x304)
 
-pub old_page_is : (encode older_fields (page_record 0 1) (replicate 512 0)).0 ≡ old_page
-old_page_is = summed_is 1 SlotIndex.A 1 0 2 (page_record 0 1) 0x588e_9174 0xb3b8_1b53 none_refused.1 older_sums.0 older_sums.1
+pub old_page_is : (encode older_fields (page_record 0 1) (zeros_for older_fields)).0 ≡ old_page
+old_page_is = summed_is older_fields (page_record 0 1) 0x588e_9174 0xb3b8_1b53 none_refused.1 older_sums.0 older_sums.1
 
-pub new_page_is : (encode new_fields (page_record 0 0x304) (replicate 512 0)).0 ≡ new_page
-new_page_is = summed_is 1 SlotIndex.A 3 0xe83c_e718 5 (page_record 0 0x304) 0xd61e_00d0 0x9755_91c2 new_refusal new_sums.0 new_sums.1
+pub new_page_is : (encode new_fields (page_record 0 0x304) (zeros_for new_fields)).0 ≡ new_page
+new_page_is = summed_is new_fields (page_record 0 0x304) 0xd61e_00d0 0x9755_91c2 new_refusal new_sums.0 new_sums.1
 
-page_met : (k : ℕ) → cut_tests k new_page old_page (page_record 0 0x304) ≡ true → IsMet (page_write k)
-page_met k = met_by (page_write k) sound (unmarked_with first_page) (page_correct k) refl old_page new_page old_page_is new_page_is
+page_met : (k : ℕ) → tear_tests 512 (Ascending k) new_page old_page (page_record 0 0x304) ≡ true → IsMet (page_write k)
+page_met k = met_by (page_write k) sound (unmarked_with first_page) (page_correct k) old_page new_page old_page_is new_page_is
 
 pub page_cuts : PageMet
 unfolding cut header_sum header_bytes page_header_bytes le crc32c final_remainder remainder digest reversed
@@ -419,14 +473,16 @@ pub volume_sum : header_crc volume_fields (volume_record false) ≡ 0x1d15_7c74
 unfolding header_crc header_bytes volume_record_bytes crc32c final_remainder remainder digest reversed
 volume_sum = refl
 
+marked_fits : Fits marked_fields
+marked_fits = fields_fit 9 0 SlotIndex.B 2 0x1d15_7c74 5 (lit< tt) (lit< tt) (lit< tt) (lit< tt) (lit< tt) (lit< tt)
+
 volume_correct : (k : ℕ) → CorrectWrite (volume_write k)
 unfolding volume_sound first_written
-volume_correct =
-    write_correct [] volume_pair (first_page ∷ second_page ∷ []) highest_number marked_fields
-    (fields_fit 0 SlotIndex.B 2 0x1d15_7c74 5 (lit≤ tt) (lit< tt) (lit< tt) (lit< tt)) refl refl refl refl
+volume_correct k =
+    write_correct [] volume_pair (first_page ∷ second_page ∷ []) highest_number marked_fields marked_fits refl refl refl
     (info_of volume_fields (volume_record false)) (sound_won volume_pair volume_sound) refl (sym volume_sum) (volume_record true) volume_bytes.1
     volume_accepted.1
-    (rw volume_length (lit≤ tt))
+    (rw volume_length (lit≤ tt)) (Ascending k)
 
 marked_sums : (header_crc marked_fields (volume_record true) ≡ 0x880c_0bb0) × (crc32c (volume_record true) ≡ 0xa2bd_3d49)
 unfolding header_crc header_bytes volume_record_bytes crc32c final_remainder remainder digest reversed
@@ -442,11 +498,11 @@ blank_bytes = (blank_slot 0 SlotIndex.B).bytes
 abbrev pub marked_bytes : List ℕ
 marked_bytes = summed_slot 0x880c_0bb0 0xa2bd_3d49 marked_fields (volume_record true)
 
-pub marked_bytes_is : (encode marked_fields (volume_record true) (replicate 512 0)).0 ≡ marked_bytes
-marked_bytes_is = summed_is 0 SlotIndex.B 2 0x1d15_7c74 5 (volume_record true) 0x880c_0bb0 0xa2bd_3d49 marked_refusal marked_sums.0 marked_sums.1
+pub marked_bytes_is : (encode marked_fields (volume_record true) (zeros_for marked_fields)).0 ≡ marked_bytes
+marked_bytes_is = summed_is marked_fields (volume_record true) 0x880c_0bb0 0xa2bd_3d49 marked_refusal marked_sums.0 marked_sums.1
 
-volume_met : (k : ℕ) → cut_tests k marked_bytes blank_bytes (volume_record true) ≡ true → IsMet (volume_write k)
-volume_met k = met_by (volume_write k) sound (unmarked_with first_page) (volume_correct k) refl blank_bytes marked_bytes refl marked_bytes_is
+volume_met : (k : ℕ) → tear_tests 512 (Ascending k) marked_bytes blank_bytes (volume_record true) ≡ true → IsMet (volume_write k)
+volume_met k = met_by (volume_write k) sound (unmarked_with first_page) (volume_correct k) blank_bytes marked_bytes refl marked_bytes_is
 
 pub volume_cuts : VolumeMet
 unfolding cut header_sum header_bytes volume_record_bytes le crc32c final_remainder remainder digest reversed
@@ -484,31 +540,33 @@ next_refusal : encode_check next_fields (page_record 1 1) 512 ≡ Ok tt
 unfolding encode_check page_header_bytes
 next_refusal = refl
 
+next_fits : Fits next_fields
+next_fits = fields_fit 9 2 SlotIndex.B 2 0x2c8c_2a3c 5 (lit< tt) (lit< tt) (lit< tt) (lit< tt) (lit< tt) (lit< tt)
+
 second_correct : (k : ℕ) → CorrectWrite (second_write k)
 unfolding second_sound first_written
-second_correct =
-    write_correct (volume_pair ∷ first_page ∷ []) second_page [] highest_number next_fields
-    (fields_fit 2 SlotIndex.B 2 0x2c8c_2a3c 5 (lit≤ tt) (lit< tt) (lit< tt) (lit< tt)) refl refl refl refl
+second_correct k =
+    write_correct (volume_pair ∷ first_page ∷ []) second_page [] highest_number next_fields next_fits refl refl refl
     (info_of second_fields (page_record 1 0)) (sound_won second_page second_sound) refl (sym second_sum) (page_record 1 1) (page_bytes 1 1)
     page_accepted.5
-    (page_fits 1 1)
+    (page_fits 1 1) (Ascending k)
 
 abbrev pub next_page : List ℕ
 next_page = summed_slot 0x24b0_a7e6 0x09f7_d9dd next_fields (page_record 1 1)
 
-pub next_page_is : (encode next_fields (page_record 1 1) (replicate 512 0)).0 ≡ next_page
-next_page_is = summed_is 2 SlotIndex.B 2 0x2c8c_2a3c 5 (page_record 1 1) 0x24b0_a7e6 0x09f7_d9dd next_refusal next_sums.0 next_sums.1
+pub next_page_is : (encode next_fields (page_record 1 1) (zeros_for next_fields)).0 ≡ next_page
+next_page_is = summed_is next_fields (page_record 1 1) 0x24b0_a7e6 0x09f7_d9dd next_refusal next_sums.0 next_sums.1
 
 pub second_cut : SecondMet
 unfolding cut header_sum header_bytes page_header_bytes le crc32c final_remainder remainder digest reversed
 second_cut =
-    met_by (second_write 140) sound (unmarked_with first_page) (second_correct 140) refl blank_bytes next_page refl next_page_is refl
+    met_by (second_write 140) sound (unmarked_with first_page) (second_correct 140) blank_bytes next_page refl next_page_is refl
 
 -- ---- a write over an older slot B
 
 new_known : Known new_fields (page_record 0 0x304) (Page 0 41)
 new_known =
-    written_known 1 SlotIndex.A 3 0xe83c_e718 5 (lit≤ tt) (lit< tt) (lit< tt) (lit< tt) (page_record 0 0x304) (page_bytes 0 0x304) new_refusal refl
+    written_known 9 1 SlotIndex.A 3 0xe83c_e718 5 new_fits (page_record 0 0x304) (page_bytes 0 0x304) new_refusal refl
     (Page 0 41) page_accepted.2
 
 unfoldable later_sound : SoundPair later_page
@@ -523,11 +581,8 @@ later_sound =
           Beside.both (info_of newer_fields (page_record 0 2)) newer_known.valid refl (lit< tt) (sym newer_sums.0) newer_known.accepted;
     }
 
-later_store_sound : Sound later_store
+pub later_store_sound : Sound later_store
 later_store_sound = sound_with later_page refl later_sound
-
-pub stores_sound : StoresSound
-stores_sound = (sound, later_store_sound)
 
 later_sums : (header_crc later_fields (page_record 0 0x21b9_61ac) ≡ 0xe83c_e718) × (crc32c (page_record 0 0x21b9_61ac) ≡ 0x906d_1021)
 unfolding header_crc header_bytes page_header_bytes crc32c final_remainder remainder digest reversed
@@ -537,17 +592,19 @@ later_refusal : encode_check later_fields (page_record 0 0x21b9_61ac) 512 ≡ Ok
 unfolding encode_check page_header_bytes
 later_refusal = refl
 
+later_fits : Fits later_fields
+later_fits = fields_fit 9 1 SlotIndex.B 4 0xd61e_00d0 6 (lit< tt) (lit< tt) (lit< tt) (lit< tt) (lit< tt) (lit< tt)
+
 later_correct : (k : ℕ) → CorrectWrite (later_write k)
 unfolding later_sound
-later_correct =
+later_correct k =
     write_correct (volume_pair ∷ []) later_page (second_page ∷ [])
     (highest_with later_page (info_of new_fields (page_record 0 0x304)) (info_of newer_fields (page_record 0 2)) new_known.valid newer_known.valid)
-    later_fields
-    (fields_fit 1 SlotIndex.B 4 0xd61e_00d0 6 (lit≤ tt) (lit< tt) (lit< tt) (lit< tt)) refl refl refl refl
+    later_fields later_fits refl refl refl
     (info_of new_fields (page_record 0 0x304)) (sound_won later_page later_sound) refl (sym new_sums.0) (page_record 0 0x21b9_61ac)
     (page_bytes 0 0x21b9_61ac)
     page_accepted.3
-    (page_fits 0 0x21b9_61ac)
+    (page_fits 0 0x21b9_61ac) (Ascending k)
 
 abbrev pub newer_slot : List ℕ
 newer_slot = summed_slot 0xe83c_e718 0xea7c_0394 newer_fields (page_record 0 2)
@@ -555,16 +612,16 @@ newer_slot = summed_slot 0xe83c_e718 0xea7c_0394 newer_fields (page_record 0 2)
 abbrev pub later_slot : List ℕ
 later_slot = summed_slot 0xe83c_e718 0x906d_1021 later_fields (page_record 0 0x21b9_61ac)
 
-pub newer_slot_is : (encode newer_fields (page_record 0 2) (replicate 512 0)).0 ≡ newer_slot
-newer_slot_is = summed_is 1 SlotIndex.B 2 0x588e_9174 4 (page_record 0 2) 0xe83c_e718 0xea7c_0394 none_refused.2 newer_sums.0 newer_sums.1
+pub newer_slot_is : (encode newer_fields (page_record 0 2) (zeros_for newer_fields)).0 ≡ newer_slot
+newer_slot_is = summed_is newer_fields (page_record 0 2) 0xe83c_e718 0xea7c_0394 none_refused.2 newer_sums.0 newer_sums.1
 
-pub later_slot_is : (encode later_fields (page_record 0 0x21b9_61ac) (replicate 512 0)).0 ≡ later_slot
+pub later_slot_is : (encode later_fields (page_record 0 0x21b9_61ac) (zeros_for later_fields)).0 ≡ later_slot
 later_slot_is =
-    summed_is 1 SlotIndex.B 4 0xd61e_00d0 6 (page_record 0 0x21b9_61ac) 0xe83c_e718 0x906d_1021 later_refusal later_sums.0 later_sums.1
+    summed_is later_fields (page_record 0 0x21b9_61ac) 0xe83c_e718 0x906d_1021 later_refusal later_sums.0 later_sums.1
 
-later_met : (k : ℕ) → cut_tests k later_slot newer_slot (page_record 0 0x21b9_61ac) ≡ true → IsMet (later_write k)
+later_met : (k : ℕ) → tear_tests 512 (Ascending k) later_slot newer_slot (page_record 0 0x21b9_61ac) ≡ true → IsMet (later_write k)
 later_met k =
-    met_by (later_write k) later_store_sound (unmarked_with later_page) (later_correct k) refl newer_slot later_slot newer_slot_is later_slot_is
+    met_by (later_write k) later_store_sound (unmarked_with later_page) (later_correct k) newer_slot later_slot newer_slot_is later_slot_is
 
 pub later_cuts : LaterMet
 unfolding cut header_sum header_bytes page_header_bytes le crc32c final_remainder remainder digest reversed
@@ -573,4 +630,4 @@ later_cuts = Every.more (later_met 64 refl) (Every.more (later_met 133 refl) Eve
 -- ---- the hypotheses are the theorem's
 
 pub met_is_enough : MetIsEnough
-met_is_enough w met out room = cut_theorem w met.sound met.unmarked met.correct met.point met.none out room
+met_is_enough w met out room = cut_theorem w met.sound met.unmarked met.correct met.possible met.none out room

@@ -4,8 +4,8 @@ use Rattle.std.specs.Prelude.{true, false, List, [], ◌∷◌, ℕ, Some, None}
 use Rattle.slot.specs.declared.slot.SlotIndex.{SlotIndex}
 use Rattle.judge.specs.declared.records.SlotRead.{SlotRead}
 use Rattle.cut.specs.Store.{Every}
-use Rattle.cut_examples.specs.Stores.{volume_record, page_record}
-use Rattle.cut_examples.specs.Writes.{page_write, volume_write, second_write, later_write}
+use Rattle.cut_examples.specs.Stores.{volume_record, page_record, long_record}
+use Rattle.cut_examples.specs.Writes.{page_write, volume_write, second_write, later_write, long_write, neither, the_first, the_second, both}
 use Rattle.cut_examples.specs.Computed.{Computed, blank_read, bad_magic, torn_header, torn_payload, valid_read}
 
 -- ---- the records
@@ -86,3 +86,21 @@ pub record OtherCuts : Type 0 where
   pub later_64 : Computed (later_write 64) (torn_header 0xe83c_e718) None false (0 ∷ 1 ∷ 0 ∷ 1 ∷ 0 ∷ 1 ∷ 0 ∷ 2 ∷ 0 ∷ 1 ∷ 0 ∷ 1 ∷ []) new_page_records
   -- The payload fails its checksum: InFlight.
   pub later_133 : Computed (later_write 133) (torn_payload 4 6 0xe83c_e718 0xd61e_00d0) (Some (1, SlotIndex.B)) false (0 ∷ 1 ∷ 0 ∷ 1 ∷ 0 ∷ 1 ∷ 0 ∷ 3 ∷ 0 ∷ 1 ∷ 0 ∷ 1 ∷ []) new_page_records
+
+-- ---- a page of four entries is written by sectors, to slot A of pair 1
+
+abbrev pub long_old_records : List (List ℕ)
+long_old_records = volume_record false ∷ long_record 0x2_4000 4 ∷ page_record 1 0 ∷ []
+
+abbrev pub long_new_records : List (List ℕ)
+long_new_records = volume_record false ∷ long_record 0x2_8000 5 ∷ page_record 1 0 ∷ []
+
+pub record SectorCuts : Type 0 where
+  -- The old slot is Valid and older: Nothing.
+  pub sectors_none : Computed (long_write neither) (valid_read 1 2 0x3b80_d549 0 408) None false (0 ∷ 1 ∷ 0 ∷ 1 ∷ 0 ∷ 2 ∷ 1 ∷ 0 ∷ 0 ∷ 1 ∷ 0 ∷ 1 ∷ []) long_old_records
+  -- The payload fails its checksum under the new header, generation, previous checksum and number follow on: InFlight.
+  pub sectors_first : Computed (long_write the_first) (torn_payload 3 5 0x4d45_7736 0xd7d6_5030) (Some (1, SlotIndex.A)) false (0 ∷ 1 ∷ 0 ∷ 1 ∷ 0 ∷ 2 ∷ 3 ∷ 0 ∷ 0 ∷ 1 ∷ 0 ∷ 1 ∷ []) long_old_records
+  -- It fails under the old header, whose generation is below the winner's: OlderDamaged, and not healed.
+  pub sectors_second : Computed (long_write the_second) (torn_payload 1 2 0x3b80_d549 0) None false (0 ∷ 1 ∷ 0 ∷ 1 ∷ 0 ∷ 2 ∷ 2 ∷ 0 ∷ 0 ∷ 1 ∷ 0 ∷ 1 ∷ []) long_old_records
+  -- The new slot is Valid and newer: Winner.
+  pub sectors_both : Computed (long_write both) (valid_read 3 5 0x4d45_7736 0xd7d6_5030 408) None false (0 ∷ 1 ∷ 0 ∷ 1 ∷ 0 ∷ 1 ∷ 0 ∷ 1 ∷ 0 ∷ 1 ∷ 0 ∷ 1 ∷ []) long_new_records

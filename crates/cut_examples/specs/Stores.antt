@@ -1,6 +1,6 @@
--- Two stores of three pairs, the volume record and two pages, in slots of 512 bytes (docs/FORMAT.md, "The sound store and the cut"). The
--- checksums that a slot names are written as numbers.
-use Rattle.std.specs.Prelude.{Bool, true, false, List, [], ◌∷◌, ◌++◌, ℕ, ◌+◌, ◌*◌, replicate}
+-- Three stores of three pairs, the volume record and two pages, in slots of 512 bytes and, for a page of more than one sector, of 1,024
+-- (docs/FORMAT.md, "The sound store and the cut"). The checksums that a slot names are written as numbers.
+use Rattle.std.specs.Prelude.{Bool, true, false, List, [], ◌∷◌, ◌++◌, ℕ, ◌+◌, ◌*◌, ◌^◌, map, replicate}
 use Rattle.slot.specs.Status.{index_number}
 use Rattle.slot.specs.Write.{encode}
 use Rattle.slot.specs.Laws.{expect_of}
@@ -9,7 +9,9 @@ use Rattle.slot.specs.declared.slot.SlotFields.{SlotFields}
 use Rattle.slot.specs.declared.slot.Expect.{Expect}
 use Rattle.judge.specs.declared.pairs.Version.{Version}
 use Rattle.meta.specs.Volume.{volume_bytes}
-use Rattle.meta.specs.Page.{header_bytes}
+use Rattle.meta.specs.Entry.{entry_bytes}
+use Rattle.meta.specs.Page.{header_bytes, page_bytes}
+use Rattle.meta.specs.declared.meta2.RawEntry.{RawEntry}
 use Rattle.cut.specs.Store.{Volume, Page, Slot, Pair}
 
 -- ---- records
@@ -39,6 +41,40 @@ volume_record mark =
 abbrev pub page_record : (index next : ℕ) → List ℕ
 page_record index next = header_bytes (record { page_index = index; next_seq = next; count = 0 })
 
+-- A slot region with this sequence number: its two header slots at the start of its span.
+abbrev pub region : (seq letter start end footprint : ℕ) → RawEntry
+region seq letter start end footprint =
+    record {
+      seq = seq;
+      kind = 3;
+      state = 1;
+      flags = 0;
+      compat_flags = 0;
+      name = letter ∷ replicate 23 0;
+      tag = 0;
+      extent_count = 0;
+      reserved = 0;
+      header_a = start;
+      header_b = start + 4096;
+      data_size = 0;
+      capacity = 0;
+      span_start = start;
+      span_end = end;
+      footprint_seq = footprint;
+    }
+
+-- A page with four entries, 408 bytes. The end and the footprint number of the last one stand in its last 16 bytes, after the first 512 of
+-- the slot.
+abbrev pub long_record : (end footprint : ℕ) → List ℕ
+long_record end footprint =
+    page_bytes (record { page_index = 0; next_seq = 4; count = 4 })
+    (map entry_bytes
+    (region 0 97 0x1_0000 0x1_4000 1
+    ∷ region 1 98 0x1_4000 0x1_8000 1
+    ∷ region 2 99 0x1_8000 0x1_c000 1
+    ∷ region 3 100 0x1_c000 end footprint
+    ∷ []))
+
 -- ---- slots
 
 -- What a host left in the fields of a frame that are not given: the largest numbers.
@@ -51,17 +87,17 @@ rest =
       prev_header_crc32c = 0xffff_ffff;
     }
 
--- The slots of an object lie one after the other, and those of the next object after them.
-abbrev pub fields : (object : ℕ) → SlotIndex → (generation prev number : ℕ) → SlotFields
-fields object index generation prev number =
+-- The slots of an object lie one after the other, and those of the next object of their size after them.
+abbrev pub fields : (log2 object : ℕ) → SlotIndex → (generation prev number : ℕ) → SlotFields
+fields log2 object index generation prev number =
     record {
       volume_uuid = replicate 16 7;
       object_id = object;
       generation = generation;
       owner_generation = 1;
-      slot_offset = 1024 * object + 512 * index_number index;
+      slot_offset = 2 ^ log2 * (2 * object + index_number index);
       slot_index = index;
-      log2_slot_size = 9;
+      log2_slot_size = log2;
       prev_header_crc32c = prev;
       format_major = 2;
       meta_seq = number;
@@ -72,47 +108,66 @@ fields object index generation prev number =
 abbrev pub read_with : SlotFields → Expect
 read_with f = expect_of f true
 
+-- A slot of its size without a byte written.
+abbrev pub zeros_for : SlotFields → List ℕ
+zeros_for f = replicate (2 ^ f.log2_slot_size) 0
+
 -- A slot as `encode` writes it.
 abbrev pub written_slot : SlotFields → List ℕ → Slot
-written_slot f payload = record { bytes = (encode f payload (replicate 512 0)).0; expect = read_with f; rest = rest }
+written_slot f payload = record { bytes = (encode f payload (zeros_for f)).0; expect = read_with f; rest = rest }
 
--- A Blank slot: after its first 128 bytes it holds anything.
+-- A Blank slot of 512 bytes: after its first 128 it holds anything.
 abbrev pub blank_slot : (object : ℕ) → SlotIndex → Slot
 blank_slot object index =
-    record { bytes = replicate 128 0 ++ replicate 384 9; expect = read_with (fields object index 0 0 0); rest = rest }
+    record { bytes = replicate 128 0 ++ replicate 384 9; expect = read_with (fields 9 object index 0 0 0); rest = rest }
 
 -- ---- pairs
 
 -- Pair 0: A of generation 1, B Blank.
 abbrev pub volume_fields : SlotFields
-volume_fields = fields 0 SlotIndex.A 1 0 1
+volume_fields = fields 9 0 SlotIndex.A 1 0 1
 
 abbrev pub volume_pair : Pair
 volume_pair = record { a = written_slot volume_fields (volume_record false); b = blank_slot 0 SlotIndex.B; decoder = Volume }
 
 -- Pair 1: A of generation 1, B of generation 2, which names A's checksum.
 abbrev pub older_fields : SlotFields
-older_fields = fields 1 SlotIndex.A 1 0 2
+older_fields = fields 9 1 SlotIndex.A 1 0 2
 
 abbrev pub newer_fields : SlotFields
-newer_fields = fields 1 SlotIndex.B 2 0x588e_9174 4
+newer_fields = fields 9 1 SlotIndex.B 2 0x588e_9174 4
 
 abbrev pub first_page : Pair
 first_page = record { a = written_slot older_fields (page_record 0 1); b = written_slot newer_fields (page_record 0 2); decoder = Page 0 41 }
 
 -- Pair 2: A of generation 1, B Blank.
 abbrev pub second_fields : SlotFields
-second_fields = fields 2 SlotIndex.A 1 0 3
+second_fields = fields 9 2 SlotIndex.A 1 0 3
 
 abbrev pub second_page : Pair
 second_page = record { a = written_slot second_fields (page_record 1 0); b = blank_slot 2 SlotIndex.B; decoder = Page 1 41 }
 
 -- Pair 1 once a write to its slot A stands whole: A of generation 3, which names B's checksum, and B of generation 2.
 abbrev pub new_fields : SlotFields
-new_fields = fields 1 SlotIndex.A 3 0xe83c_e718 5
+new_fields = fields 9 1 SlotIndex.A 3 0xe83c_e718 5
 
 abbrev pub later_page : Pair
 later_page = record { a = written_slot new_fields (page_record 0 0x304); b = written_slot newer_fields (page_record 0 2); decoder = Page 0 41 }
+
+-- A pair of slots of 1,024 bytes: A of generation 1, B of generation 2, which names A's checksum. Its pages have four entries.
+abbrev pub long_older_fields : SlotFields
+long_older_fields = fields 10 3 SlotIndex.A 1 0 2
+
+abbrev pub long_newer_fields : SlotFields
+long_newer_fields = fields 10 3 SlotIndex.B 2 0x3b80_d549 4
+
+abbrev pub long_page : Pair
+long_page =
+    record {
+      a = written_slot long_older_fields (long_record 0x2_0000 2);
+      b = written_slot long_newer_fields (long_record 0x2_4000 4);
+      decoder = Page 0 41;
+    }
 
 -- ---- the stores
 
@@ -121,3 +176,6 @@ first_store = volume_pair ∷ first_page ∷ second_page ∷ []
 
 abbrev pub later_store : List Pair
 later_store = volume_pair ∷ later_page ∷ second_page ∷ []
+
+abbrev pub long_store : List Pair
+long_store = volume_pair ∷ long_page ∷ second_page ∷ []

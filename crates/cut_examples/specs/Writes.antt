@@ -1,26 +1,26 @@
--- The cut theorem is not empty (docs/FORMAT.md, "The sound store and the cut"): four writes to the stores of Stores.antt, cut at nineteen
--- places, meet every hypothesis of it.
-use Rattle.std.specs.Prelude.{◌≡◌, true, false, List, [], ◌∷◌, ℕ, ◌*◌, length, replicate}
+-- The cut theorem is not empty (docs/FORMAT.md, "The sound store and the cut"): five writes to the stores of Stores.antt, cut at nineteen
+-- places and with four sets of sectors, meet every hypothesis of it.
+use Rattle.std.specs.Prelude.{◌≡◌, Bool, true, false, ◌==◌, List, [], ◌∷◌, ℕ, ◌*◌, length}
 use Rattle.slot.specs.declared.slot.SlotIndex.{SlotIndex}
 use Rattle.slot.specs.declared.slot.SlotFields.{SlotFields}
 use Rattle.judge.specs.Frames.{verdict_width}
 use Rattle.cut.specs.Store.{Every, Pair, store_mark, Sound}
-use Rattle.cut.specs.Cut.{Write, store, size, old, new, left, CutPoint, CorrectWrite, whole, Accident, handed, Survives}
-use Rattle.cut_examples.specs.Stores.{volume_record, page_record, fields, volume_pair, first_page, second_page, new_fields, later_page, first_store, later_store}
+use Rattle.cut.specs.Cut.{Tear, Ascending, Sectors, Write, store, size, old, new, left, Possible, CorrectWrite, whole, AccidentBy, handed, Survives}
+use Rattle.cut_examples.specs.Stores.{volume_record, page_record, long_record, fields, zeros_for, volume_pair, first_page, second_page, new_fields, later_page, long_page, first_store, later_store, long_store}
 
 -- ---- the hypotheses
 
--- Both stores are sound.
+-- The stores are sound.
 abbrev pub StoresSound : Type 0
-StoresSound = Sound first_store × Sound later_store
+StoresSound = Sound first_store × Sound later_store × Sound long_store
 
 -- What the theorem asks of a write and its cut.
 pub record IsMet (w : Write) : Type 0 where
   pub sound : Sound (store w)
   pub unmarked : store_mark (store w) ≡ false
   pub correct : CorrectWrite w
-  pub point : CutPoint w.k (size w)
-  pub none : Accident (left w) (old w) (new w) w.payload → ⊥
+  pub possible : Possible w.tear (size w)
+  pub none : AccidentBy w.tear (left w) (old w) (new w) w.payload → ⊥
 
 -- Nothing else is asked: what the theorem concludes follows.
 abbrev pub MetIsEnough : Type 0
@@ -29,8 +29,8 @@ MetIsEnough = (w : Write) → IsMet w → (out : List ℕ) → length out ≡ le
 -- ---- the writes
 
 -- `encode` of the fields and the payload into zeros, for the slot of the pair that the fields name.
-abbrev pub write_to : (before : List Pair) → Pair → (behind : List Pair) → SlotFields → (payload : List ℕ) → (k : ℕ) → Write
-write_to before p behind f payload k =
+abbrev pub write_to : (before : List Pair) → Pair → (behind : List Pair) → SlotFields → (payload : List ℕ) → Tear → Write
+write_to before p behind f payload tear =
     record {
       before = before;
       pair = p;
@@ -38,42 +38,49 @@ write_to before p behind f payload k =
       index = f.slot_index;
       fields = f;
       payload = payload;
-      buffer = replicate 512 0;
-      k = k;
+      buffer = zeros_for f;
+      tear = tear;
     }
 
 -- A page to slot A of pair 1 over generation 1: generation 3, with B's checksum and number 5.
 abbrev pub page_write : ℕ → Write
-page_write = write_to (volume_pair ∷ []) first_page (second_page ∷ []) new_fields (page_record 0 0x304)
+page_write k = write_to (volume_pair ∷ []) first_page (second_page ∷ []) new_fields (page_record 0 0x304) (Ascending k)
 
 -- The volume record with its clean mark set to the Blank slot B of pair 0: generation 2, with A's checksum and number 5.
 abbrev pub marked_fields : SlotFields
-marked_fields = fields 0 SlotIndex.B 2 0x1d15_7c74 5
+marked_fields = fields 9 0 SlotIndex.B 2 0x1d15_7c74 5
 
 abbrev pub volume_write : ℕ → Write
-volume_write = write_to [] volume_pair (first_page ∷ second_page ∷ []) marked_fields (volume_record true)
+volume_write k = write_to [] volume_pair (first_page ∷ second_page ∷ []) marked_fields (volume_record true) (Ascending k)
 
 -- A page to the Blank slot B of pair 2: generation 2, with A's checksum and number 5.
 abbrev pub next_fields : SlotFields
-next_fields = fields 2 SlotIndex.B 2 0x2c8c_2a3c 5
+next_fields = fields 9 2 SlotIndex.B 2 0x2c8c_2a3c 5
 
 abbrev pub second_write : ℕ → Write
-second_write = write_to (volume_pair ∷ first_page ∷ []) second_page [] next_fields (page_record 1 1)
+second_write k = write_to (volume_pair ∷ first_page ∷ []) second_page [] next_fields (page_record 1 1) (Ascending k)
 
 -- A page to slot B of the later pair 1 over generation 2: generation 4, with A's checksum and number 6. Its next seq makes the new header's
 -- checksum that of the header it is written over.
 abbrev pub later_fields : SlotFields
-later_fields = fields 1 SlotIndex.B 4 0xd61e_00d0 6
+later_fields = fields 9 1 SlotIndex.B 4 0xd61e_00d0 6
 
 abbrev pub later_write : ℕ → Write
-later_write = write_to (volume_pair ∷ []) later_page (second_page ∷ []) later_fields (page_record 0 0x21b9_61ac)
+later_write k = write_to (volume_pair ∷ []) later_page (second_page ∷ []) later_fields (page_record 0 0x21b9_61ac) (Ascending k)
+
+-- A page of four entries to slot A of the pair with slots of 1,024 bytes, over generation 1: generation 3, with B's checksum and number 5.
+abbrev pub long_fields : SlotFields
+long_fields = fields 10 3 SlotIndex.A 3 0xd7d6_5030 5
+
+abbrev pub long_write : (ℕ → Bool) → Write
+long_write reached = write_to (volume_pair ∷ []) long_page (second_page ∷ []) long_fields (long_record 0x2_8000 5) (Sectors reached)
 
 -- The stores that they are written to.
 abbrev pub StoresWritten : Type 0
 StoresWritten =
-    (k : ℕ)
+    (k : ℕ) (reached : ℕ → Bool)
     → (store (page_write k) ≡ first_store) × (store (volume_write k) ≡ first_store) × (store (second_write k) ≡ first_store)
-    × (store (later_write k) ≡ later_store)
+    × (store (later_write k) ≡ later_store) × (store (long_write reached) ≡ long_store)
 
 -- ---- the cuts
 
@@ -95,11 +102,31 @@ SecondMet = IsMet (second_write 140)
 abbrev pub LaterMet : Type 0
 LaterMet = Every (λ (k : ℕ). IsMet (later_write k)) (64 ∷ 133 ∷ [])
 
+-- Of the two sectors of the slot neither is new, the first, the second, both.
+abbrev pub neither : ℕ → Bool
+neither j = false
+
+abbrev pub the_first : ℕ → Bool
+the_first j = j == 0
+
+abbrev pub the_second : ℕ → Bool
+the_second j = j == 1
+
+abbrev pub both : ℕ → Bool
+both j = true
+
+-- Under the new header the payload fails without the second sector, and under the old header with it.
+abbrev pub LongMet : Type 0
+LongMet = Every (λ (reached : ℕ → Bool). IsMet (long_write reached)) (neither ∷ the_first ∷ the_second ∷ both ∷ [])
+
 -- ---- what stands whole, and the mark
 
--- The page stands whole with its last byte that is not zero.
+-- The page stands whole with its last byte that is not zero, and the one of four entries with both sectors.
 abbrev pub StandsWhole : Type 0
 StandsWhole = (whole (page_write 133) ≡ false) × (whole (page_write 134) ≡ true)
+
+abbrev pub LongWhole : Type 0
+LongWhole = (whole (long_write the_first) ≡ false) × (whole (long_write the_second) ≡ false) × (whole (long_write both) ≡ true)
 
 -- The judge is handed the new record's mark once the volume record stands whole.
 abbrev pub MarkHanded : Type 0

@@ -1,13 +1,14 @@
-// The cut theorem is not empty: two stores are sound, writes to both slots of a page, to a Blank one and to the volume record are correct, and
-// cuts after no byte, in the header, in the payload and after the last byte are no accidents. What is judged and read back after each cut is
-// computed, and not concluded from the theorem. Each function does nothing: its contract is what specs/Writes.antt and specs/Cuts.antt say.
+// The cut theorem is not empty: three stores are sound, writes to both slots of a page, to a Blank one and to the volume record are correct,
+// and cuts after no byte, in the header, in the payload and after the last byte, and with any of two sectors, are no accidents. What is judged
+// and read back after each cut is computed, and not concluded from the theorem. Each function does nothing: its contract is what
+// specs/Writes.antt and specs/Cuts.antt say.
 #![tactic(auto)]
 
-ghost use Rattle.cut_examples.specs.Writes.{StoresSound, StoresWritten, MetIsEnough, PageMet, VolumeMet, SecondMet, LaterMet, StandsWhole, MarkHanded};
-ghost use Rattle.cut_examples.specs.Cuts.{PageCuts, VolumeCuts, OtherCuts, MagicCuts};
+ghost use Rattle.cut_examples.specs.Writes.{StoresSound, StoresWritten, MetIsEnough, PageMet, VolumeMet, SecondMet, LaterMet, LongMet, StandsWhole, LongWhole, MarkHanded};
+ghost use Rattle.cut_examples.specs.Cuts.{PageCuts, VolumeCuts, OtherCuts, SectorCuts, MagicCuts};
 
 // The stores are sound, and they are those that are written to.
-#[tactic(auto, using(crate::proofs::Writes::stores_sound))]
+#[tactic(auto, using(crate::proofs::LongWrites::stores_sound))]
 pub fn stores()
     ensures sound { StoresSound }
     ensures written { StoresWritten }
@@ -19,28 +20,31 @@ pub fn hypotheses()
     ensures { MetIsEnough }
 {}
 
-// They are met at nineteen cuts of four writes.
-#[tactic(auto, using(crate::proofs::Writes::page_cuts, crate::proofs::Writes::volume_cuts, crate::proofs::Writes::second_cut, crate::proofs::Writes::later_cuts))]
+// They are met at nineteen cuts of four writes in ascending order, and at four cuts of one by sectors.
+#[tactic(auto, using(crate::proofs::Writes::page_cuts, crate::proofs::Writes::volume_cuts, crate::proofs::Writes::second_cut, crate::proofs::Writes::later_cuts, crate::proofs::LongWrites::long_cuts))]
 pub fn met()
     ensures page { PageMet }
     ensures volume { VolumeMet }
     ensures second { SecondMet }
     ensures later { LaterMet }
+    ensures sectors { LongMet }
 {}
 
-// On both sides of the byte that makes the new record whole.
-#[tactic(auto, using(crate::proofs::Writes::page_whole, crate::proofs::Writes::volume_marks))]
+// On both sides of the byte, and of the sector, that makes the new record whole.
+#[tactic(auto, using(crate::proofs::Writes::page_whole, crate::proofs::Writes::volume_marks, crate::proofs::LongWrites::long_whole))]
 pub fn whole()
     ensures page { StandsWhole }
+    ensures sectors { LongWhole }
     ensures mark { MarkHanded }
 {}
 
 // What is judged and read back after each cut.
-#[tactic(auto, using(crate::proofs::Computed::page_computed, crate::proofs::Computed::volume_computed, crate::proofs::Computed::other_computed))]
+#[tactic(auto, using(crate::proofs::Computed::page_computed, crate::proofs::Computed::volume_computed, crate::proofs::Computed::other_computed, crate::proofs::LongWrites::long_computed))]
 pub fn cuts()
     ensures page { PageCuts }
     ensures volume { VolumeCuts }
     ensures other { OtherCuts }
+    ensures sectors { SectorCuts }
 {}
 
 // After one to six bytes over a Blank slot.

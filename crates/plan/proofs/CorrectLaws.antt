@@ -18,7 +18,7 @@ use Rattle.judge.specs.Same.{AllFit, frame_of}
 use Rattle.judge.proofs.SameLaws.{row-is}
 use Rattle.judge.specs.declared.pairs.Pair.{Pair as ShownPair}
 use Rattle.cut.specs.Store.{Every, Pair, slot_at, report, framed_pair, framed, frames, SoundPair}
-use Rattle.cut.specs.Cut.{old, new, left, Accident}
+use Rattle.cut.specs.Cut.{Ascending, Sectors, old, new, left, AccidentBy}
 use Rattle.cut.proofs.FrameLaws.{PairTyped, row_fits}
 use Rattle.cut.proofs.PairLaws.{sound_won}
 use Rattle.cut.proofs.WriteLaws.{other_other}
@@ -28,7 +28,7 @@ use Rattle.plan.specs.declared.write.Plan.{Plan}
 use Rattle.plan.specs.Pairs.{frame_report}
 use Rattle.plan.specs.Plan.{followed, plan_write}
 use Rattle.plan.specs.Next.{fields_of, encoded, write_by, next_write as next_by}
-use Rattle.plan.specs.Promise.{NumberedPair, write_of, PlannedIsCorrect, SurvivesCuts}
+use Rattle.plan.specs.Promise.{NumberedPair, write_of, PlannedIsCorrect, Answer, SurvivesCuts, BothKindsSurvived}
 use Rattle.plan.proofs.PlanLaws.{plan_has, planned_frame, next_of_winner}
 use Rattle.plan.proofs.ReportLaws.{held_report, winner_held, followed_held}
 use Rattle.plan.proofs.FrameLaws.{frame_reports, frame_at, fits_at}
@@ -38,7 +38,7 @@ all_typed Every.none = Every.none
 all_typed (Every.more first rest) = Every.more (record { a = (first SlotIndex.A).typed; b = (first SlotIndex.B).typed }) (all_typed rest)
 
 pub planned_is_correct : PlannedIsCorrect
-planned_is_correct before p behind won plan owner compat payload buffer k numbered won_is is owner_fits compat_fits bytes accepts_it fits room =
+planned_is_correct before p behind won plan owner compat payload buffer tear numbered won_is is owner_fits compat_fits bytes accepts_it fits room =
     let ps : List Pair = before ++ p ∷ behind in
     let all_fit : AllFit (framed ps) = row_fits (all_typed numbered) in
     let f : List ℕ = frame_of (framed_pair p) in
@@ -79,9 +79,6 @@ record Answered (given : List ℕ) (i : ℕ) (a b : Expect) (owner compat : ℕ)
   pub is : plan_write given i ≡ Ok (Some plan)
   pub bytes : written ≡ (encode (fields_of plan (by_index plan.index a b) owner compat) payload buffer).0
   pub none : encode_check (fields_of plan (by_index plan.index a b) owner compat) payload (length buffer) ≡ Ok tt
-
-abbrev Answer : Type 0
-Answer = Result (Option (Plan × ℕ)) PlanError
 
 abbrev After : Type 0
 After = List ℕ × Answer
@@ -139,10 +136,10 @@ pub survives_cuts : (given : List ℕ) (i : ℕ) (a b : Expect) (owner compat : 
     → owner < 2 ^ 64 → compat < 2 ^ 32 → AllBytes payload
     → ◌≡◌ {A = After} (written, answer) (next_by given i a b owner compat payload buffer)
     → SurvivesCuts given i a b owner compat payload buffer written answer
-survives_cuts given i a b owner compat payload buffer written answer owner_fits compat_fits bytes both before p behind plan crc k verdicts
-    sound unmarked frames_are place a_is b_is planned_it accepts_it point no_accident verdicts_room =
-    let known = answered given i a b owner compat payload buffer written answer plan crc planned_it both in
-    let w = write_of before p behind plan owner compat payload buffer k in
+survives_cuts given i a b owner compat payload buffer written answer owner_fits compat_fits bytes both before p behind plan tear verdicts
+    asked possible no_accident verdicts_room =
+    let known = answered given i a b owner compat payload buffer written answer plan asked.crc asked.planned both in
+    let w = write_of before p behind plan owner compat payload buffer tear in
     let same_expect = expect_is plan.index in
     let none : encode_check w.fields payload (length buffer) ≡ Ok tt =
     ap (λ (e : Expect). encode_check (fields_of plan e owner compat) payload (length buffer)) same_expect ∙ known.none in
@@ -150,20 +147,28 @@ survives_cuts given i a b owner compat payload buffer written answer owner_fits 
     let large = power_room (length buffer) w.fields.log2_slot_size taken.size taken.log2-low taken.log2-high in
     let fits : 128 + length payload ≤ 2 ^ (slot_at plan.index p).expect.log2_slot_size = omega (arith, large.0, taken.payload-fits, taken.size) in
     let here : plan_write (frames (before ++ p ∷ behind)) (length before) ≡ Ok (Some plan) =
-    ap₂ plan_write (sym frames_are) (sym place) ∙ known.is in
-    let all = sound_pairs sound in
+    ap₂ plan_write (sym asked.frames_are) (sym asked.place) ∙ known.is in
+    let all = sound_pairs asked.sound in
     let pair_sound : SoundPair p = every_first (every_behind before (p ∷ behind) all) in
     let correct =
-    planned_is_correct before p behind (pair_sound.newer, pair_sound.info) plan owner compat payload buffer k (numbered_pairs all) (sound_won p pair_sound)
-    here owner_fits compat_fits bytes accepts_it fits taken.size in
+    planned_is_correct before p behind (pair_sound.newer, pair_sound.info) plan owner compat payload buffer tear (numbered_pairs all)
+    (sound_won p pair_sound)
+    here owner_fits compat_fits bytes asked.accepted fits taken.size in
     let same : new w ≡ written =
     ap (λ (e : Expect). (encode (fields_of plan e owner compat) payload buffer).0) same_expect ∙ sym known.bytes in (
       same,
-      cut_theorem w sound unmarked correct point
-          (λ accident. no_accident (subst (λ (bytes : List ℕ). Accident (left w) (old w) bytes payload) same accident))
+      cut_theorem w asked.sound asked.unmarked correct possible
+          (λ accident. no_accident (subst (λ (bytes : List ℕ). AccidentBy tear (left w) (old w) bytes payload) same accident))
           verdicts verdicts_room,
     )
   where
     expect_is : (index : SlotIndex) → (slot_at index p).expect ≡ by_index index a b
-    expect_is SlotIndex.A = a_is
-    expect_is SlotIndex.B = b_is
+    expect_is SlotIndex.A = asked.read_a
+    expect_is SlotIndex.B = asked.read_b
+
+pub both_kinds_survived : BothKindsSurvived
+both_kinds_survived given i a b owner compat payload buffer written answer before p behind plan verdicts survives asked verdicts_room =
+    record {
+      ascending = λ k point none. (survives before p behind plan (Ascending k) verdicts asked point none verdicts_room).1;
+      sectors = λ reached none. (survives before p behind plan (Sectors reached) verdicts asked tt none verdicts_room).1;
+    }

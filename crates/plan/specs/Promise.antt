@@ -1,6 +1,6 @@
 -- What a planned write keeps: it is the cut theorem's correct write, the store survives where it is cut, and a write that is finished leaves
 -- a sound store (docs/FORMAT.md, "What a correct write is").
-use Rattle.std.specs.Prelude.{◌≡◌, Option, Some, Result, Ok, true, false, List, ◌∷◌, ◌++◌, ℕ, ◌+◌, ◌*◌, ◌^◌, ◌≤◌, ◌<◌, length}
+use Rattle.std.specs.Prelude.{◌≡◌, Bool, Option, Some, Result, Ok, true, false, List, ◌∷◌, ◌++◌, ℕ, ◌+◌, ◌*◌, ◌^◌, ◌≤◌, ◌<◌, length}
 use Rattle.codec.specs.Bytes.{AllBytes}
 use Rattle.slot.specs.declared.slot.SlotIndex.{SlotIndex}
 use Rattle.slot.specs.declared.slot.SlotInfo.{SlotInfo}
@@ -8,7 +8,7 @@ use Rattle.slot.specs.declared.slot.Expect.{Expect}
 use Rattle.pair.specs.Pair.{winner_info}
 use Rattle.judge.specs.Frames.{verdict_width}
 use Rattle.cut.specs.Store.{Every, Pair, accepts, slot_at, report, frames, last_record, store_mark, SoundSlot, Sound}
-use Rattle.cut.specs.Cut.{Write, store, size, new, left, with_slot, CutPoint, CorrectWrite, Accident, Survives}
+use Rattle.cut.specs.Cut.{Tear, Ascending, Sectors, Write, store, size, old, new, left, with_slot, CutPoint, Possible, CorrectWrite, Accident, SectorAccident, AccidentBy, Survives}
 use Rattle.plan.specs.declared.error.PlanError.{PlanError}
 use Rattle.plan.specs.declared.write.Plan.{Plan}
 use Rattle.plan.specs.Plan.{plan_write}
@@ -18,9 +18,9 @@ use Rattle.plan.specs.Next.{fields_of}
 abbrev pub NumberedPair : Pair → Type 0
 NumberedPair p = (index : SlotIndex) → SoundSlot (slot_at index p)
 
--- The planned write to a pair, with others before and behind it, cut after k bytes.
-abbrev pub write_of : List Pair → Pair → List Pair → Plan → ℕ → ℕ → List ℕ → List ℕ → ℕ → Write
-write_of before p behind plan owner compat payload buffer k =
+-- The planned write to a pair, with others before and behind it, and what of it reached the slot before the cut.
+abbrev pub write_of : List Pair → Pair → List Pair → Plan → ℕ → ℕ → List ℕ → List ℕ → Tear → Write
+write_of before p behind plan owner compat payload buffer tear =
     record {
       before = before;
       pair = p;
@@ -29,14 +29,14 @@ write_of before p behind plan owner compat payload buffer k =
       fields = fields_of plan (slot_at plan.index p).expect owner compat;
       payload = payload;
       buffer = buffer;
-      k = k;
+      tear = tear;
     }
 
 -- Over any store of such pairs, in any state: where the pair has a winner, a planned write with fields within their types, an acceptable
 -- payload that fits and a buffer of the slot's size is correct.
 abbrev pub PlannedIsCorrect : Type 0
 PlannedIsCorrect =
-    (before : List Pair) (p : Pair) (behind : List Pair) (won : SlotIndex × SlotInfo) (plan : Plan) (owner compat : ℕ) (payload buffer : List ℕ) (k : ℕ)
+    (before : List Pair) (p : Pair) (behind : List Pair) (won : SlotIndex × SlotInfo) (plan : Plan) (owner compat : ℕ) (payload buffer : List ℕ) (tear : Tear)
     → Every NumberedPair (before ++ p ∷ behind)
     → winner_info (report p) ≡ Some won
     → plan_write (frames (before ++ p ∷ behind)) (length before) ≡ Ok (Some plan)
@@ -46,26 +46,55 @@ PlannedIsCorrect =
     → accepts p.decoder payload ≡ true
     → 128 + length payload ≤ 2 ^ (slot_at plan.index p).expect.log2_slot_size
     → length buffer ≡ 2 ^ (slot_at plan.index p).expect.log2_slot_size
-    → CorrectWrite (write_of before p behind plan owner compat payload buffer k)
+    → CorrectWrite (write_of before p behind plan owner compat payload buffer tear)
 
--- Of every sound store with no clean mark that the frames are of, and whose pair i is read with a and b: where a plan is answered, the pair's
--- decoder accepts the payload, and the write of the bytes to the planned slot is cut without an accident, the store survives.
-abbrev pub SurvivesCuts : List ℕ → ℕ → Expect → Expect → ℕ → ℕ → List ℕ → List ℕ → List ℕ → Result (Option (Plan × ℕ)) PlanError → Type 0
+-- What is answered where a next write is asked for: the plan and the header's checksum, or nothing, or a refusal.
+abbrev pub Answer : Type 0
+Answer = Result (Option (Plan × ℕ)) PlanError
+
+-- The frames are of a sound store with no clean mark, whose pair i is p and is read with a and b; a plan was answered for it, and its
+-- decoder accepts the payload.
+pub record PlannedFor (given : List ℕ) (i : ℕ) (a b : Expect) (payload : List ℕ) (answer : Answer) (before : List Pair) (p : Pair) (behind : List Pair) (plan : Plan) : Type 0 where
+  pub crc : ℕ
+  pub sound : Sound (before ++ p ∷ behind)
+  pub unmarked : store_mark (before ++ p ∷ behind) ≡ false
+  pub frames_are : given ≡ frames (before ++ p ∷ behind)
+  pub place : i ≡ length before
+  pub read_a : p.a.expect ≡ a
+  pub read_b : p.b.expect ≡ b
+  pub planned : answer ≡ Ok (Some (plan, crc))
+  pub accepted : accepts p.decoder payload ≡ true
+
+-- Where so the write of the bytes to the planned slot is cut without an accident, in ascending order or by sectors, the store survives.
+abbrev pub SurvivesCuts : List ℕ → ℕ → Expect → Expect → ℕ → ℕ → List ℕ → List ℕ → List ℕ → Answer → Type 0
 SurvivesCuts given i a b owner compat payload buffer written answer =
-    (before : List Pair) (p : Pair) (behind : List Pair) (plan : Plan) (crc k : ℕ) (verdicts : List ℕ)
-    → Sound (before ++ p ∷ behind)
-    → store_mark (before ++ p ∷ behind) ≡ false
-    → given ≡ frames (before ++ p ∷ behind)
-    → i ≡ length before
-    → p.a.expect ≡ a
-    → p.b.expect ≡ b
-    → answer ≡ Ok (Some (plan, crc))
-    → accepts p.decoder payload ≡ true
-    → CutPoint k (size (write_of before p behind plan owner compat payload buffer k))
-    → (Accident (left (write_of before p behind plan owner compat payload buffer k)) (slot_at plan.index p).bytes written payload → ⊥)
+    (before : List Pair) (p : Pair) (behind : List Pair) (plan : Plan) (tear : Tear) (verdicts : List ℕ)
+    → PlannedFor given i a b payload answer before p behind plan
+    → Possible tear (size (write_of before p behind plan owner compat payload buffer tear))
+    → (AccidentBy tear (left (write_of before p behind plan owner compat payload buffer tear)) (slot_at plan.index p).bytes written payload → ⊥)
     → length verdicts ≡ length (before ++ p ∷ behind) * verdict_width
-    → (new (write_of before p behind plan owner compat payload buffer k) ≡ written)
-    × Survives (write_of before p behind plan owner compat payload buffer k) verdicts
+    → (new (write_of before p behind plan owner compat payload buffer tear) ≡ written)
+    × Survives (write_of before p behind plan owner compat payload buffer tear) verdicts
+
+-- What that says of each kind of cut, where the bytes were written.
+pub record SurvivesBoth (w : Tear → Write) (written : List ℕ) (verdicts : List ℕ) : Type 0 where
+  -- After no byte, or after 8 or more.
+  pub ascending : (k : ℕ) → CutPoint k (size (w (Ascending k)))
+      → (Accident (left (w (Ascending k))) (old (w (Ascending k))) written (w (Ascending k)).payload → ⊥)
+      → Survives (w (Ascending k)) verdicts
+  -- With any of the sectors.
+  pub sectors : (reached : ℕ → Bool)
+      → (SectorAccident (left (w (Sectors reached))) (old (w (Sectors reached))) written (w (Sectors reached)).payload → ⊥)
+      → Survives (w (Sectors reached)) verdicts
+
+abbrev pub BothKindsSurvived : Type 0
+BothKindsSurvived =
+    (given : List ℕ) (i : ℕ) (a b : Expect) (owner compat : ℕ) (payload buffer written : List ℕ) (answer : Answer)
+    (before : List Pair) (p : Pair) (behind : List Pair) (plan : Plan) (verdicts : List ℕ)
+    → SurvivesCuts given i a b owner compat payload buffer written answer
+    → PlannedFor given i a b payload answer before p behind plan
+    → length verdicts ≡ length (before ++ p ∷ behind) * verdict_width
+    → SurvivesBoth (write_of before p behind plan owner compat payload buffer) written verdicts
 
 -- The store after a write that was not cut.
 abbrev pub finished_pair : Write → Pair

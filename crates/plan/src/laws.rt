@@ -2,7 +2,7 @@
 ghost use Rattle.plan.specs.Numbers.{WinnersOfVerdicts};
 ghost use Rattle.plan.specs.Plan.{NotTheWinner};
 ghost use Rattle.plan.specs.Heal.{HealsTheNamed};
-ghost use Rattle.plan.specs.Promise.{PlannedIsCorrect, FinishedIsSound};
+ghost use Rattle.plan.specs.Promise.{PlannedIsCorrect, BothKindsSurvived, FinishedIsSound};
 
 // Does nothing: its contract is that the winners whose numbers `heal_number` goes by are those of the judge's verdicts.
 #[tactic(auto, using(crate::proofs::WinnerLaws::winners_of_verdicts))]
@@ -25,6 +25,11 @@ pub fn heal_law()
 #[tactic(auto, using(crate::proofs::CorrectLaws::planned_is_correct))]
 pub fn correct_law()
     ensures { PlannedIsCorrect }
+{}
+
+// Does nothing: its contract is that what `next_write` promises of cuts is of those in ascending order and of those by sectors.
+pub fn cuts_law()
+    ensures { BothKindsSurvived }
 {}
 
 // Does nothing: its contract is that a correct write which is finished leaves a sound store whose last record is the payload.

@@ -1,0 +1,182 @@
+-- What specs/Writes.antt and specs/Cuts.antt say of the write of a page of four entries, cut by sectors.
+use Rattle.std.proofs.Common.{◌≡◌, refl, sym, ◌∙◌, Bool, true, List, [], ◌∷◌, ℕ, ◌+◌, ◌≤◌, lit≤, lit<, length, Some, Ok}
+use Rattle.codec.specs.Bytes.{AllBytes, le}
+use Rattle.codec.specs.Crc32c.{crc32c, final_remainder, remainder, digest, reversed}
+use Rattle.slot.specs.Payload.{payload as payload_of}
+use Rattle.slot.specs.Read.{is_slot_length, header_sum, passes_checksum, is_malformed, check, passes_payload}
+use Rattle.slot.specs.Write.{header_bytes, header_crc, encode_check, encode}
+use Rattle.slot.specs.Laws.{Fits, info_of}
+use Rattle.slot.specs.declared.slot.SlotIndex.{SlotIndex}
+use Rattle.slot.specs.declared.slot.SlotInfo.{SlotInfo}
+use Rattle.pair.specs.Pair.{decide, winner_info}
+use Rattle.judge.specs.Verdict.{by_index}
+use Rattle.judge.specs.Judge.{first_verdicts, first_tally, row_rules, verdicts, judgement}
+use Rattle.judge.specs.Part.{part_bytes}
+use Rattle.judge.specs.Frames.{frames_error, judge_frames, frames_left}
+use Rattle.judge.specs.Same.{filled}
+use Rattle.judge.specs.declared.records.SlotRead.{SlotRead}
+use Rattle.meta.specs.Entry.{entry_bytes}
+use Rattle.meta.specs.Page.{header_at, decode_page, entries, header_bytes as page_header_bytes, page_bytes}
+use Rattle.cut.specs.Store.{Every, Page, accepts, SoundPair, Beside, Sound}
+use Rattle.cut.specs.Cut.{Sectors, by_sector, torn, CorrectWrite, stands_whole, whole}
+use Rattle.cut.proofs.ByteLaws.{bytes_tested}
+use Rattle.cut.proofs.PairLaws.{sound_won}
+use Rattle.cut_examples.specs.Stores.{long_record, zeros_for, volume_pair, second_page, long_older_fields, long_newer_fields, long_page, long_store}
+use Rattle.cut_examples.specs.Writes.{IsMet, StoresSound, long_fields, long_write, neither, the_first, the_second, both, LongMet, LongWhole}
+use Rattle.cut_examples.specs.Computed.{torn_payload, valid_read}
+use Rattle.cut_examples.specs.Cuts.{SectorCuts}
+use Rattle.cut_examples.proofs.Writes.{Known, fields_fit, written_known, sound, later_store_sound, sound_with, unmarked_with, highest_with, tear_tests, met_by, write_correct, summed_slot, summed_is}
+use Rattle.cut_examples.proofs.SlotsRead.{read_once, read_once_is, pair_record}
+use Rattle.cut_examples.proofs.Computed.{Written, page_at}
+
+-- ---- the records and the slots
+
+abbrev older_record : List ℕ
+older_record = long_record 0x2_0000 2
+
+abbrev newer_record : List ℕ
+newer_record = long_record 0x2_4000 4
+
+abbrev new_record : List ℕ
+new_record = long_record 0x2_8000 5
+
+record_bytes : AllBytes older_record × AllBytes newer_record × AllBytes new_record
+unfolding page_bytes page_header_bytes entry_bytes
+record_bytes = (bytes_tested older_record refl, bytes_tested newer_record refl, bytes_tested new_record refl)
+
+accepted : (accepts (Page 0 41) older_record ≡ true) × (accepts (Page 0 41) newer_record ≡ true) × (accepts (Page 0 41) new_record ≡ true)
+unfolding page_bytes page_header_bytes entry_bytes decode_page header_at entries le
+accepted = (refl, refl, refl)
+
+sums : (crc32c older_record ≡ 0x672f_0c46) × (crc32c newer_record ≡ 0x43bd_9a4c) × (crc32c new_record ≡ 0xb775_a3e1)
+unfolding page_bytes page_header_bytes entry_bytes crc32c final_remainder remainder digest reversed
+sums = (refl, refl, refl)
+
+header_sums : (header_crc long_older_fields older_record ≡ 0x3b80_d549) × (header_crc long_newer_fields newer_record ≡ 0xd7d6_5030)
+    × (header_crc long_fields new_record ≡ 0x4d45_7736)
+unfolding header_crc header_bytes page_bytes page_header_bytes entry_bytes crc32c final_remainder remainder digest reversed
+header_sums = (refl, refl, refl)
+
+none_refused : (encode_check long_older_fields older_record 1024 ≡ Ok tt) × (encode_check long_newer_fields newer_record 1024 ≡ Ok tt)
+    × (encode_check long_fields new_record 1024 ≡ Ok tt)
+unfolding encode_check page_bytes page_header_bytes entry_bytes
+none_refused = (refl, refl, refl)
+
+older_fits : Fits long_older_fields
+older_fits = fields_fit 10 3 SlotIndex.A 1 0 2 (lit< tt) (lit< tt) (lit< tt) (lit< tt) (lit< tt) (lit< tt)
+
+newer_fits : Fits long_newer_fields
+newer_fits = fields_fit 10 3 SlotIndex.B 2 0x3b80_d549 4 (lit< tt) (lit< tt) (lit< tt) (lit< tt) (lit< tt) (lit< tt)
+
+new_fits : Fits long_fields
+new_fits = fields_fit 10 3 SlotIndex.A 3 0xd7d6_5030 5 (lit< tt) (lit< tt) (lit< tt) (lit< tt) (lit< tt) (lit< tt)
+
+older_known : Known long_older_fields older_record (Page 0 41)
+older_known = written_known 10 3 SlotIndex.A 1 0 2 older_fits older_record record_bytes.0 none_refused.0 refl (Page 0 41) accepted.0
+
+newer_known : Known long_newer_fields newer_record (Page 0 41)
+newer_known = written_known 10 3 SlotIndex.B 2 0x3b80_d549 4 newer_fits newer_record record_bytes.1 none_refused.1 refl (Page 0 41) accepted.1
+
+-- With their checksums as numbers.
+
+abbrev older_slot : List ℕ
+older_slot = summed_slot 0x3b80_d549 0x672f_0c46 long_older_fields older_record
+
+abbrev newer_slot : List ℕ
+newer_slot = summed_slot 0xd7d6_5030 0x43bd_9a4c long_newer_fields newer_record
+
+abbrev new_slot : List ℕ
+new_slot = summed_slot 0x4d45_7736 0xb775_a3e1 long_fields new_record
+
+older_slot_is : (encode long_older_fields older_record (zeros_for long_older_fields)).0 ≡ older_slot
+older_slot_is = summed_is long_older_fields older_record 0x3b80_d549 0x672f_0c46 none_refused.0 header_sums.0 sums.0
+
+newer_slot_is : (encode long_newer_fields newer_record (zeros_for long_newer_fields)).0 ≡ newer_slot
+newer_slot_is = summed_is long_newer_fields newer_record 0xd7d6_5030 0x43bd_9a4c none_refused.1 header_sums.1 sums.1
+
+new_slot_is : (encode long_fields new_record (zeros_for long_fields)).0 ≡ new_slot
+new_slot_is = summed_is long_fields new_record 0x4d45_7736 0xb775_a3e1 none_refused.2 header_sums.2 sums.2
+
+-- ---- the store and the write
+
+unfoldable long_sound : SoundPair long_page
+long_sound =
+    record {
+      slots = elim [ SlotIndex.A ↦ older_known.slot | SlotIndex.B ↦ newer_known.slot ];
+      newer = SlotIndex.B;
+      info = info_of long_newer_fields newer_record;
+      valid = newer_known.valid;
+      accepted = newer_known.accepted;
+      beside = Beside.both (info_of long_older_fields older_record) older_known.valid refl (lit< tt) (sym header_sums.0) older_known.accepted;
+    }
+
+long_store_sound : Sound long_store
+long_store_sound = sound_with long_page refl long_sound
+
+pub stores_sound : StoresSound
+stores_sound = (sound, later_store_sound, long_store_sound)
+
+record_fits : 128 + length new_record ≤ 1024
+unfolding page_bytes page_header_bytes entry_bytes
+record_fits = lit≤ tt
+
+long_correct : (reached : ℕ → Bool) → CorrectWrite (long_write reached)
+unfolding long_sound
+long_correct reached =
+    write_correct (volume_pair ∷ []) long_page (second_page ∷ [])
+    (highest_with long_page (info_of long_older_fields older_record) (info_of long_newer_fields newer_record) older_known.valid newer_known.valid)
+    long_fields new_fits refl refl refl
+    (info_of long_newer_fields newer_record) (sound_won long_page long_sound) refl (sym header_sums.1) new_record record_bytes.2 accepted.2
+    record_fits (Sectors reached)
+
+-- ---- the cuts
+
+long_met : (reached : ℕ → Bool) → tear_tests 1024 (Sectors reached) new_slot older_slot new_record ≡ true → IsMet (long_write reached)
+long_met reached =
+    met_by (long_write reached) long_store_sound (unmarked_with long_page) (long_correct reached) older_slot new_slot older_slot_is new_slot_is
+
+pub long_cuts : LongMet
+unfolding by_sector payload_of header_sum header_bytes page_bytes page_header_bytes entry_bytes le crc32c final_remainder remainder digest reversed
+long_cuts =
+    Every.more (long_met neither refl)
+    (Every.more (long_met the_first refl) (Every.more (long_met the_second refl) (Every.more (long_met both refl) Every.none)))
+
+pub long_whole : LongWhole
+unfolding stands_whole by_sector header_bytes page_bytes page_header_bytes entry_bytes
+long_whole = (whole_of the_first, whole_of the_second, whole_of both)
+  where
+    whole_of : (reached : ℕ → Bool) → whole (long_write reached) ≡ stands_whole (by_sector reached 0 new_slot older_slot) new_slot new_record
+    whole_of reached = rw (new_slot_is, older_slot_is)
+
+-- ---- as they are read
+
+abbrev newer_read : SlotRead
+newer_read = valid_read 2 4 0xd7d6_5030 0x3b80_d549 408
+
+newer_is : read_once newer_slot long_page.b.expect ≡ newer_read
+unfolding is_slot_length check passes_checksum is_malformed passes_payload payload_of header_sum header_bytes page_bytes page_header_bytes entry_bytes le crc32c final_remainder remainder digest reversed
+newer_is = refl
+
+-- Slot A with these sectors new is read as x.
+long_read : (reached : ℕ → Bool) (x : SlotRead) → read_once (torn (Sectors reached) new_slot older_slot) long_page.a.expect ≡ x
+    → {index : SlotIndex} {i : SlotInfo} → winner_info (decide x.status newer_read.status) ≡ Some (index, i)
+    → {r : List ℕ} → payload_of i (by_index index (torn (Sectors reached) new_slot older_slot) newer_slot) ≡ r → accepts (Page 0 41) r ≡ true
+    → Written (long_write reached) x (record { a = x; b = newer_read }) r
+long_read reached x read won {r} back takes =
+    record {
+      slot_is = rw (new_slot_is, older_slot_is) (read_once_is (torn (Sectors reached) new_slot older_slot) long_page.a.expect ∙ read);
+      pair_is =
+          rw (new_slot_is, older_slot_is, newer_slot_is)
+          (pair_record (torn (Sectors reached) new_slot older_slot) newer_slot long_page.a.expect long_page.b.expect (Page 0 41)
+          (record { a = x; b = newer_read }) r read newer_is won back takes);
+    }
+
+pub long_computed : SectorCuts
+unfolding by_sector is_slot_length check passes_checksum is_malformed passes_payload payload_of header_sum header_bytes page_bytes page_header_bytes entry_bytes le crc32c final_remainder remainder digest reversed decide filled part_bytes judge_frames frames_left frames_error judgement verdicts row_rules first_verdicts first_tally
+long_computed =
+    record {
+      sectors_none = page_at (long_read neither (valid_read 1 2 0x3b80_d549 0 408) refl refl refl accepted.1) refl refl;
+      sectors_first = page_at (long_read the_first (torn_payload 3 5 0x4d45_7736 0xd7d6_5030) refl refl refl accepted.1) refl refl;
+      sectors_second = page_at (long_read the_second (torn_payload 1 2 0x3b80_d549 0) refl refl refl accepted.1) refl refl;
+      sectors_both = page_at (long_read both (valid_read 3 5 0x4d45_7736 0xd7d6_5030 408) refl refl refl accepted.2) refl refl;
+    }
