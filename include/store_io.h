@@ -576,10 +576,10 @@ uint32_t sio_judge(const uint8_t *frames, size_t frames_len, uint8_t clean, uint
  * and not the judge, whose Lost takes in Empty and Fork.
  *
  * Promised: of a sound store whose clean mark is 0, a write of what sio_next_write encodes, to the slot that it names, of a
- * payload that the pair's decoder accepts, cut after any number of bytes but one to seven and without an accident
- * (docs/FORMAT.md, "The sound store and the cut"), leaves a store that is judged writable, and of every pair the last record
- * that was written whole. A write that is finished leaves a sound store. Not covered: the first write after a clean close, a
- * healing write, and the writes after a cut.
+ * payload that the pair's decoder accepts, cut after any number of bytes but one to seven, or with any of its aligned sectors
+ * of 512 bytes whole and the others not begun, and without an accident (docs/FORMAT.md, "The sound store and the cut"), leaves
+ * a store that is judged writable, and of every pair the last record that was written whole. A write that is finished leaves
+ * a sound store. Not covered: the first write after a clean close, a healing write, and the writes after a cut.
  */
 
 /* The number of the next write: one above the highest of all numbered slots, 1 where there is none; 48 where that is 2^64. The
