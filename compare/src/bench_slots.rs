@@ -2,7 +2,7 @@
 
 use crate::bench::{cells, random_bytes, Contestant, Table, AS_IT_PICKS, OURS, PORTABLE};
 use crate::ffi::{self, Identity, Version};
-use crate::portable_slot;
+use crate::portable::slot as portable_slot;
 use crate::rng::Rng;
 use crate::sample::{random_identity, HEADER};
 use crate::slot;

@@ -29,17 +29,6 @@ mod pair;
 #[rustfmt::skip]
 mod slot;
 
-/// The reference's slot.rs with the checksum of `portable`, made by compare/build.
-#[path = "../../target/compare/portable/slot.rs"]
-#[allow(dead_code)]
-#[rustfmt::skip]
-mod portable_slot;
-/// The reference's pair.rs over that.
-#[path = "../../target/compare/portable/pair.rs"]
-#[allow(dead_code)]
-#[rustfmt::skip]
-mod portable_pair;
-
 mod bench;
 mod bench_judge;
 mod bench_meta;
