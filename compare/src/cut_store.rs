@@ -1,12 +1,15 @@
-//! Sound stores and correct writes (docs/FORMAT.md, "The sound store and the cut"), made by the library.
+//! Sound stores and correct writes (docs/FORMAT.md, "The sound store and the cut"), made by what is tried.
 
-use crate::cut_records::{bytes, cells, clean_mark, done, Kind};
-use crate::ffi::{self, Version};
+use crate::cut_records::{clean_mark, Kind};
+use crate::ffi::Version;
 use crate::ffi_pair::PairIdentity;
+use crate::implementation::Implementation;
 use crate::page_sample::{ENTRY, PAGE_HEADER};
 use crate::rng::Rng;
-use crate::sample::{HEADER, YES};
-use std::cell::Cell;
+use crate::sample::{HEADER, PAYLOAD_LEN, YES};
+use crate::stored::get;
+use crate::tear::Medium;
+use std::ops::Range;
 
 pub const MOST_PAIRS: usize = 8;
 
@@ -40,12 +43,12 @@ pub struct Write {
     pub new: Vec<u8>,
 }
 
-pub fn random_store(rng: &mut Rng) -> Vec<Pair> {
+pub fn random_store(rng: &mut Rng, tried: &dyn Implementation, medium: Medium) -> Vec<Pair> {
     let pairs = 1 + rng.below(MOST_PAIRS);
     let volume = (rng.any(), rng.any());
     let numbers = random_numbers(rng, pairs);
     let numbers = numbers.into_iter().enumerate();
-    numbers.map(|(at, numbers)| random_pair(rng, at, volume, numbers)).collect()
+    numbers.map(|(at, numbers)| random_pair(rng, tried, medium, at, volume, numbers)).collect()
 }
 
 /// Two rising numbers for each pair; the highest has a number above it. As a store hands them out, anything, or a few
@@ -73,8 +76,15 @@ fn rising(rng: &mut Rng, highest: u64) -> [u64; 2] {
 }
 
 /// Pair `at` of a store: a first A beside a blank B, or an older and a newer slot.
-fn random_pair(rng: &mut Rng, at: usize, volume: (u64, u64), [older, newer]: [u64; 2]) -> Pair {
-    let log2_slot_size = random_log2(rng);
+fn random_pair(
+    rng: &mut Rng,
+    tried: &dyn Implementation,
+    medium: Medium,
+    at: usize,
+    volume: (u64, u64),
+    [older, newer]: [u64; 2],
+) -> Pair {
+    let log2_slot_size = medium.log2(rng);
     let fit = fitting_entries(1 << log2_slot_size);
     let kind = if at == 0 { Kind::Volume } else { Kind::page(rng, at as u32 - 1, fit) };
     let at = PairIdentity {
@@ -95,8 +105,8 @@ fn random_pair(rng: &mut Rng, at: usize, volume: (u64, u64), [older, newer]: [u6
         _ => 1 + rng.below(4) as u64,
     };
     let slot = if blank { 0 } else { rng.below(2) };
-    let previous = rng.any() as u32;
-    let (first, own) = encode(&at, slot, &version(rng, generation, older, previous), &record);
+    let previous = rng.any() as u32 >> (u32::BITS - tried.checksum_bits());
+    let (first, own) = tried.encode(&at.slot(slot as u32), &version(rng, generation, older, previous), &record);
     let mut slots = [vec![0; first.len()], vec![0; first.len()]];
     slots[slot] = first;
     let mut pair = Pair { kind, at, slots, winner: slot, blank, generation, number: older, own, previous, record };
@@ -107,17 +117,9 @@ fn random_pair(rng: &mut Rng, at: usize, volume: (u64, u64), [older, newer]: [u6
         pair.number = newer;
         pair.previous = pair.own;
         let version = version(rng, pair.generation, newer, pair.previous);
-        (pair.slots[pair.winner], pair.own) = encode(&at, pair.winner, &version, &pair.record);
+        (pair.slots[pair.winner], pair.own) = tried.encode(&at.slot(pair.winner as u32), &version, &pair.record);
     }
     pair
-}
-
-fn random_log2(rng: &mut Rng) -> u8 {
-    match rng.below(64) {
-        0 => 12,
-        1..=6 => 10,
-        _ => 9,
-    }
 }
 
 /// How many entries a page has room for in a slot of that size.
@@ -135,19 +137,11 @@ fn version(rng: &mut Rng, generation: u64, number: u64, previous: u32) -> Versio
     }
 }
 
-/// A slot and its header's checksum.
-fn encode(at: &PairIdentity, slot: usize, version: &Version, record: &[u8]) -> (Vec<u8>, u32) {
-    let written = cells(&vec![0; 1 << at.log2_slot_size]);
-    let checksum = Cell::new(0);
-    done("sio_encode", ffi::encode(&written, &at.slot(slot as u32), version, &cells(record), &checksum));
-    (bytes(&written), checksum.get())
-}
-
 /// A correct write of any pair. What counts for nothing in the slot below it is filled here: bytes after a blank header
 /// or after an older payload, anything or what is about to be written there.
-pub fn random_write(rng: &mut Rng, store: &mut [Pair]) -> Write {
+pub fn random_write(rng: &mut Rng, tried: &dyn Implementation, medium: Medium, store: &mut [Pair]) -> Write {
     let highest = store.iter().map(|pair| pair.number).max().unwrap_or(0);
-    let written = if rng.one_in(2) { 0 } else { rng.below(store.len()) };
+    let written = medium.pair(rng, store.len());
     let pair = &mut store[written];
     let slot = 1 - pair.winner;
     let fit = fitting_entries(pair.slots[slot].len());
@@ -157,10 +151,10 @@ pub fn random_write(rng: &mut Rng, store: &mut [Pair]) -> Write {
     let mut version = version(rng, pair.generation + 1, highest + 1, pair.own);
     let same_checksum = rng.one_in(16);
     if same_checksum {
-        version.compat_flags = flags_for(pair, slot, &version, &record);
+        version.compat_flags = flags_for(tried, pair, slot, &version, &record);
     }
-    let (new, _) = encode(&pair.at, slot, &version, &record);
-    let counts = if pair.blank { HEADER } else { payload_end(pair, slot) };
+    let (new, _) = tried.encode(&pair.at.slot(slot as u32), &version, &record);
+    let counts = stored_payload(&pair.slots[slot]).end;
     let below = &mut pair.slots[slot][counts..];
     match rng.below(4) {
         0 => rng.fill(below),
@@ -170,23 +164,20 @@ pub fn random_write(rng: &mut Rng, store: &mut [Pair]) -> Write {
     Write { pair: written, slot, record, mark, same_checksum, new }
 }
 
-fn payload_end(pair: &Pair, slot: usize) -> usize {
-    let found = Cell::new([0; 9]);
-    let stored = cells(&pair.slots[slot]);
-    let status = ffi::validate(&stored, &pair.at.slot(slot as u32), pair.at.numbered, &found);
-    assert!(status == 12, "sio_validate answers {status} to a slot that was written");
-    let [.., start, len] = found.get();
-    (start + len) as usize
+/// Where a slot's payload lies by the length in its header; a Blank slot has none.
+pub fn stored_payload(slot: &[u8]) -> Range<usize> {
+    HEADER..HEADER + get(slot, PAYLOAD_LEN) as usize
 }
 
 /// The compatible flags with which a header has the winner's previous checksum. The checksum is a sum without carry of
 /// what each bit of the flags adds, and four bytes in a row can give it any value: elimination finds the bits.
-fn flags_for(pair: &Pair, slot: usize, version: &Version, record: &[u8]) -> u32 {
-    let checksum = |flags| encode(&pair.at, slot, &Version { compat_flags: flags, ..*version }, record).1;
+fn flags_for(tried: &dyn Implementation, pair: &Pair, slot: usize, version: &Version, record: &[u8]) -> u32 {
+    let at = pair.at.slot(slot as u32);
+    let checksum = |flags| tried.encode(&at, &Version { compat_flags: flags, ..*version }, record).1;
     let without = checksum(0);
     let mut rows: Vec<(u32, u32)> = (0..32).map(|bit| (checksum(1 << bit) ^ without, 1 << bit)).collect();
     let mut wanted = (pair.previous ^ without, 0);
-    for bit in 0..32 {
+    for bit in 0..tried.checksum_bits() {
         let has = |row: &(u32, u32)| row.0 >> bit & 1 == 1;
         let at = rows.iter().position(has).expect("every bit of the checksum depends on the flags");
         let pivot = rows.swap_remove(at);

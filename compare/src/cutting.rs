@@ -1,28 +1,30 @@
-//! One write cut at every byte: what the library answers to each slot that is left, beside what the cut theorem promises.
+//! One write cut in many ways: what is answered to each slot that is left, beside what the cut theorem promises.
 
-use crate::cut_records::{bytes, cells};
-use crate::cut_store::{Pair, Write};
-use crate::ffi;
-use crate::ffi_pair::{winner_payload, Answered};
+use crate::cut_records::cells;
+use crate::cut_store::{stored_payload, Pair, Write};
 use crate::frames::{BAD_HEADER, BAD_PAYLOAD, BLANK, FRAME, HALF, VALID};
+use crate::implementation::{Implementation, Judged, WinnerPayload};
 use crate::judge_reference::VERDICT;
 use crate::part::{number, Fields};
-use crate::sample::{HEADER, HEADER_CRC, PAYLOAD_CRC};
+use crate::sample::{HEADER, HEADER_CRC, HEADER_LEN, MAGIC, PAYLOAD_CRC};
 use crate::stored::get;
+use crate::tear::Tear;
 use crate::value::{hex, Value};
-use std::cell::Cell;
-use std::ops::Range;
 
 /// What a slot's verdict says besides Winner.
 const NOTHING: u8 = 1;
 const OLDER_DAMAGED: u8 = 2;
 const IN_FLIGHT: u8 = 3;
 
-/// What a cut leaves in the written slot, by its bytes alone.
+/// What a cut leaves in the written slot: by its bytes alone, and for another payload under the old header by its checksum.
 #[derive(Clone, Copy, PartialEq)]
 pub enum Left {
-    /// The header is the old one, and with it all of the slot.
+    /// The old header over the old payload, or a blank one.
     Old,
+    /// The old header over another payload, which fails its checksum.
+    OlderPayload,
+    /// The old header over another payload, which passes its checksum.
+    OlderPasses,
     TornHeader,
     /// A torn header that shows the checksum of the version before the winner: it passes for that one, damaged.
     OlderHeader,
@@ -31,13 +33,34 @@ pub enum Left {
     New,
 }
 
-/// What the library answers, but for the pairs that are not written.
+/// What passes its checksum and is not what the checksum was taken of.
+#[derive(Clone, Copy, PartialEq)]
+pub enum Accident {
+    /// A header that is neither old nor new.
+    Header,
+    /// Another payload under the new header.
+    NewPayload,
+    /// Another payload under the old header.
+    OldPayload,
+}
+
+impl Accident {
+    pub const ALL: &'static [Self] = &[Self::Header, Self::NewPayload, Self::OldPayload];
+
+    pub fn name(self) -> &'static str {
+        match self {
+            Self::Header => "torn header",
+            Self::NewPayload => "payload under the new header",
+            Self::OldPayload => "payload under the old header",
+        }
+    }
+}
+
+/// What is answered, but for the pairs that are not written.
 #[derive(PartialEq)]
 pub struct Answers {
     status: u32,
-    refusal: u32,
-    verdicts: Vec<u8>,
-    judgement: [u64; 5],
+    judged: Judged,
     read: ReadBack,
 }
 
@@ -50,24 +73,23 @@ pub struct ReadBack {
     decoded: u32,
 }
 
-/// The store while a write is cut. What is lent to the library lies in cells; `cut` is what the written slot must hold.
+/// The store while a write is cut.
 pub struct Cutting<'a> {
+    tried: &'a dyn Implementation,
     store: &'a [Pair],
     write: &'a Write,
-    slots: [Vec<Cell<u8>>; 2],
-    cut: Vec<u8>,
-    frames: Vec<Cell<u8>>,
+    /// Those of the written pair, one of them as the cut left it.
+    slots: [Vec<u8>; 2],
+    frames: Vec<u8>,
 }
 
 impl<'a> Cutting<'a> {
-    pub fn new(store: &'a [Pair], write: &'a Write) -> Self {
-        let slots = store[write.pair].slots.each_ref().map(|slot| cells(slot));
-        let cut = store[write.pair].slots[write.slot].clone();
-        let frames = cells(&vec![0; FRAME * store.len()]);
-        let mut cutting = Self { store, write, slots, cut, frames };
-        for (at, pair) in store.iter().enumerate() {
+    pub fn new(tried: &'a dyn Implementation, store: &'a [Pair], write: &'a Write) -> Self {
+        let slots = store[write.pair].slots.clone();
+        let mut cutting = Self { tried, store, write, slots, frames: vec![0; FRAME * store.len()] };
+        for at in 0..store.len() {
             for slot in 0..2 {
-                cutting.fill_frame(at, slot, &cells(&pair.slots[slot]));
+                cutting.fill_frame(at, slot);
             }
         }
         cutting
@@ -77,59 +99,78 @@ impl<'a> Cutting<'a> {
         &self.store[self.write.pair]
     }
 
-    fn fill_frame(&mut self, at: usize, slot: usize, stored: &ffi::Bytes) -> u32 {
+    fn fill_frame(&mut self, at: usize, slot: usize) -> u32 {
         let pair = &self.store[at];
-        let part = Cell::new([0xee; HALF]);
-        let status = ffi::frame_slot(stored, &pair.at.slot(slot as u32), pair.at.numbered, &part);
+        let stored = if at == self.write.pair { &self.slots[slot] } else { &pair.slots[slot] };
+        let (status, part) = self.tried.frame_slot(stored, &pair.at.slot(slot as u32), pair.at.numbered);
         let start = FRAME * at + HALF * slot;
-        for (cell, byte) in self.frames[start..start + HALF].iter().zip(part.get()) {
-            cell.set(byte);
-        }
+        self.frames[start..start + HALF].copy_from_slice(&part);
         status
     }
 
-    /// More bytes of the write reach the slot.
-    pub fn write(&mut self, range: Range<usize>) {
-        for at in range {
-            self.cut[at] = self.write.new[at];
-            self.slots[self.write.slot][at].set(self.write.new[at]);
-        }
+    /// The written slot before the write.
+    fn old(&self) -> &'a [u8] {
+        &self.pair().slots[self.write.slot]
     }
 
-    fn payload(&self) -> Range<usize> {
-        HEADER..HEADER + self.write.record.len()
+    /// The written slot as the cut left it.
+    fn cut(&self) -> &[u8] {
+        &self.slots[self.write.slot]
+    }
+
+    /// Cuts the write anew.
+    pub fn tear(&mut self, tear: Tear) {
+        self.slots[self.write.slot] = tear.left(&self.write.new, self.old());
+    }
+
+    pub fn is_untouched(&self) -> bool {
+        self.cut() == self.old()
     }
 
     pub fn left(&self) -> Left {
+        let (cut, old, new) = (self.cut(), self.old(), &self.write.new[..]);
         let pair = self.pair();
-        let header = &self.cut[..HEADER];
-        if *header == self.write.new[..HEADER] {
-            if self.cut[self.payload()] == self.write.record[..] {
+        if cut[..HEADER] == new[..HEADER] {
+            if cut[HEADER..].starts_with(&self.write.record) {
                 Left::New
             } else {
                 Left::TornPayload
             }
-        } else if *header == pair.slots[self.write.slot][..HEADER] {
-            Left::Old
-        } else if get(header, HEADER_CRC) == pair.previous.into() && pair.generation >= 2 {
+        } else if cut[..HEADER] == old[..HEADER] {
+            if cut[stored_payload(old)] == old[stored_payload(old)] {
+                Left::Old
+            } else if self.payload_passes() {
+                Left::OlderPasses
+            } else {
+                Left::OlderPayload
+            }
+        } else if get(cut, HEADER_CRC) == pair.previous.into() && pair.generation >= 2 {
             Left::OlderHeader
         } else {
             Left::TornHeader
         }
     }
 
-    /// A header that is neither old nor new passes its checksum, or a payload that is not the new one passes the new one's.
-    pub fn accident(&self, left: Left) -> bool {
-        let slot = &self.slots[self.write.slot];
-        let pair = self.pair();
+    fn payload_passes(&self) -> bool {
+        let cut = self.cut();
+        u64::from(self.tried.checksum(&cut[stored_payload(cut)])) == get(cut, PAYLOAD_CRC)
+    }
+
+    fn header_passes(&self) -> bool {
+        let cut = self.cut();
+        let len = get(cut, HEADER_LEN) as usize;
+        (HEADER..=cut.len()).contains(&len) && {
+            let counted = [&cut[MAGIC], &[0; 4], &cut[HEADER_CRC.end..len]].concat();
+            u64::from(self.tried.checksum(&counted)) == get(cut, HEADER_CRC)
+        }
+    }
+
+    pub fn accident(&self, left: Left) -> Option<Accident> {
         match left {
-            Left::Old | Left::New => false,
-            Left::TornHeader | Left::OlderHeader => {
-                let at = pair.at.slot(self.write.slot as u32);
-                let status = ffi::validate(slot, &at, pair.at.numbered, &Cell::new([0; 9]));
-                status > BAD_HEADER.into()
-            }
-            Left::TornPayload => u64::from(ffi::crc32c(&slot[self.payload()])) == get(&self.cut, PAYLOAD_CRC),
+            Left::TornHeader | Left::OlderHeader => self.header_passes().then_some(Accident::Header),
+            Left::TornPayload => self.payload_passes().then_some(Accident::NewPayload),
+            Left::OlderPasses => Some(Accident::OldPayload),
+            Left::Old | Left::OlderPayload | Left::New => None,
         }
     }
 
@@ -143,10 +184,11 @@ impl<'a> Cutting<'a> {
         let pair = self.pair();
         let (status, says) = match left {
             Left::Old => (if pair.blank { BLANK } else { VALID }, NOTHING),
+            Left::OlderPayload => (BAD_PAYLOAD, OLDER_DAMAGED),
             Left::TornHeader => (BAD_HEADER, IN_FLIGHT),
             Left::OlderHeader => (BAD_HEADER, OLDER_DAMAGED),
             Left::TornPayload => (BAD_PAYLOAD, IN_FLIGHT),
-            Left::New => (VALID, NOTHING),
+            Left::OlderPasses | Left::New => (VALID, NOTHING),
         };
         let (winner, record) = if left == Left::New { (*slot, record) } else { (pair.winner, &pair.record) };
         let mut statuses = [VALID; 2];
@@ -154,28 +196,20 @@ impl<'a> Cutting<'a> {
         let mut verdicts: Vec<u8> = self.store.iter().flat_map(|pair| verdict(pair.winner, NOTHING)).collect();
         verdicts[VERDICT * at..VERDICT * (at + 1)].copy_from_slice(&verdict(winner, says));
         let (heal, healed) = if says == IN_FLIGHT { (slot + 1, *at) } else { (0, 0) };
+        let judgement = [heal as u64, healed as u64, 1, self.mark(left).into(), 0];
         Answers {
             status: status.into(),
-            refusal: 0,
-            verdicts,
-            judgement: [heal as u64, healed as u64, 1, self.mark(left).into(), 0],
+            judged: Judged { refusal: 0, verdicts, judgement },
             read: ReadBack::promised(winner, statuses, record),
         }
     }
 
     pub fn found(&mut self, left: Left) -> Answers {
-        let slot = std::mem::take(&mut self.slots[self.write.slot]);
-        let status = self.fill_frame(self.write.pair, self.write.slot, &slot);
-        self.slots[self.write.slot] = slot;
-        let verdicts = cells(&vec![0xee; VERDICT * self.store.len()]);
-        let judgement = Cell::new([u64::MAX; 5]);
-        let refusal = ffi::judge(&self.frames, self.mark(left).into(), &verdicts, &judgement);
+        let status = self.fill_frame(self.write.pair, self.write.slot);
         Answers {
             status,
-            refusal,
-            verdicts: bytes(&verdicts),
-            judgement: judgement.get(),
-            read: ReadBack::found(self.pair(), &self.slots),
+            judged: self.tried.judge(&self.frames, self.mark(left)),
+            read: ReadBack::found(self.tried, self.pair(), &self.slots),
         }
     }
 
@@ -194,8 +228,8 @@ impl<'a> Cutting<'a> {
             ("other slot", hex(&pair.slots[1 - slot])),
             ("slot before", hex(&pair.slots[*slot])),
             ("slot written", hex(new)),
-            ("slot as cut", hex(&self.cut)),
-            ("frames", hex(&bytes(&self.frames))),
+            ("slot as cut", hex(self.cut())),
+            ("frames", hex(&self.frames)),
             ("clean", number(u8::from(self.mark(left)))),
         ]
     }
@@ -212,9 +246,9 @@ impl Answers {
     pub fn fields(&self) -> Fields {
         let mut fields = vec![
             ("slot's status", number(self.status)),
-            ("refusal", number(self.refusal)),
-            ("verdicts", hex(&self.verdicts)),
-            ("judgement", hex(&self.judgement.packed())),
+            ("refusal", number(self.judged.refusal)),
+            ("verdicts", hex(&self.judged.verdicts)),
+            ("judgement", hex(&self.judged.judgement.packed())),
         ];
         fields.extend(self.read.fields());
         fields
@@ -235,19 +269,11 @@ impl ReadBack {
         Self::promised(pair.winner, [VALID, other], &pair.record)
     }
 
-    pub fn found(pair: &Pair, slots: &[Vec<Cell<u8>>; 2]) -> Self {
-        let answered = Answered {
-            values_a: &Cell::new([0; 9]),
-            values_b: &Cell::new([0; 9]),
-            report: &Cell::new([0xee; 7]),
-            start: &Cell::new(usize::MAX),
-            payload_len: &Cell::new(0),
-        };
-        let winner = winner_payload(&slots[0], &slots[1], &pair.at, &answered);
-        let (start, len) = (answered.start.get(), answered.payload_len.get());
+    pub fn found(tried: &dyn Implementation, pair: &Pair, slots: &[Vec<u8>; 2]) -> Self {
+        let WinnerPayload { winner, start, payload_len, report } = tried.winner_payload(slots, &pair.at);
         let slot = slots.get((winner as usize).wrapping_sub(1));
-        let record = slot.and_then(|slot| slot.get(start..start.checked_add(len)?)).unwrap_or(&[]);
-        Self { winner, report: answered.report.get(), record: bytes(record), decoded: pair.kind.decode(record) }
+        let record = slot.and_then(|slot| slot.get(start..start.checked_add(payload_len)?)).unwrap_or(&[]);
+        Self { winner, report, record: record.to_vec(), decoded: pair.kind.decode(&cells(record)) }
     }
 
     pub fn fields(&self) -> Fields {

@@ -39,6 +39,7 @@ mod bytestep;
 mod checksum;
 mod counts;
 mod cursor;
+mod cut_outcomes;
 mod cut_records;
 mod cut_store;
 mod cuts;
@@ -55,6 +56,7 @@ mod ffi_plan;
 mod ffi_table;
 mod ffi_volume;
 mod frames;
+mod implementation;
 mod judge_reference;
 mod judging;
 mod judging_sweep;
@@ -87,6 +89,7 @@ mod slots;
 mod slots_sweep;
 mod stored;
 mod table_reference;
+mod tear;
 mod value;
 mod verdicts;
 mod volume_sample;
@@ -95,6 +98,7 @@ mod volumes_sweep;
 mod winners;
 
 use counts::Counts;
+use cuts::Cuts;
 use part::{Checked, Part, Run};
 use rng::Rng;
 use std::process::ExitCode;
@@ -121,8 +125,8 @@ const QUICK_SEED: u64 = 0x5106_2026;
 const QUICK_ROUNDS: u64 = 100_000;
 const LONG_ROUNDS: u64 = 1_000_000;
 
-const QUICK_CUTS: u64 = 1_000_000;
-const LONG_CUTS: u64 = 40_000_000;
+const QUICK_CUTS: Cuts = Cuts { ascending: 1_000_000, sectors: 100_000 };
+const LONG_CUTS: Cuts = Cuts { ascending: 40_000_000, sectors: 12_000_000 };
 
 const QUICK_RUNS: u64 = 300;
 const LONG_RUNS: u64 = 3_000;
@@ -148,10 +152,10 @@ fn main() -> ExitCode {
             Some(seed) => compare(seed, LONG_ROUNDS),
             None => fail(BAD_SEED),
         },
-        ["cuts"] => cuts::run(QUICK_SEED, QUICK_CUTS),
-        ["cuts", "long"] => cuts::run(clock_seed(), LONG_CUTS),
+        ["cuts"] => cuts::run(QUICK_SEED, &QUICK_CUTS),
+        ["cuts", "long"] => cuts::run(clock_seed(), &LONG_CUTS),
         ["cuts", "long", seed] => match parse_seed(seed) {
-            Some(seed) => cuts::run(seed, LONG_CUTS),
+            Some(seed) => cuts::run(seed, &LONG_CUTS),
             None => fail(BAD_SEED),
         },
         ["verdicts", program] => verdicts::run(program, QUICK_SEED, QUICK_RUNS),
