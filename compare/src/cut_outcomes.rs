@@ -92,6 +92,9 @@ pub const BY_SECTORS: &[Function] = &[
     Function::part(RECORD, &[Answer::Decision("one sector"), Answer::Decision("several sectors")]),
 ];
 
+/// Besides, where accidents under the old header are met in earnest.
+pub const OLDER_PASSING: &[Function] = &[Function::new(PAGE_OLDER, &[Answer::Decision(OLDER_PASSES)])];
+
 /// How many pairs a store has, from 1 on.
 const COUNTS_OF_PAIRS: [Answer; MOST_PAIRS] = [
     Answer::Decision("1"),

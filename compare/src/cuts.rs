@@ -1,8 +1,9 @@
 //! Tries the cut theorem: after any cut of a correct write of a sound store every record is read back as it was last
-//! written, the store is writable, and nothing is healed but the written slot.
+//! written, the store is writable, and nothing is healed but the written slot. The library is tried, and the reference
+//! over a weak checksum, so that accidents are met.
 
 use crate::counts::{Counts, Function};
-use crate::cut_outcomes::{count_cut, count_write, function, outcome, ANY, ASCENDING, BY_SECTORS};
+use crate::cut_outcomes::{count_cut, count_write, function, outcome, ANY, ASCENDING, BY_SECTORS, OLDER_PASSING};
 use crate::cut_store::{random_store, random_write, Pair, Write};
 use crate::cutting::{Accident, Cutting, ReadBack};
 use crate::implementation::{Implementation, Library};
@@ -10,6 +11,7 @@ use crate::part::{Checked, Fields, Report, Run};
 use crate::rng::Rng;
 use crate::tear::{Medium, Tear};
 use crate::value::hex;
+use crate::weak::Weak;
 use std::ops::RangeInclusive;
 use std::process::ExitCode;
 
@@ -19,6 +21,8 @@ const UNTOUCHED: &str = "reading of a pair that is not written";
 pub struct Cuts {
     pub ascending: u64,
     pub sectors: u64,
+    pub weak_ascending: u64,
+    pub weak_sectors: u64,
 }
 
 struct Trial {
@@ -29,10 +33,14 @@ struct Trial {
     functions: &'static [&'static [Function]],
     /// How many there may be of each kind that the medium can leave.
     accidents: RangeInclusive<u64>,
+    /// The kinds after which nothing is promised.
+    left_out: &'static [Accident],
 }
 
 /// One torn slot in 2^32 passes a checksum by accident: where more do, the library's checksum or reader is wrong.
 const BY_CHANCE: RangeInclusive<u64> = 0..=2;
+/// Of a weak checksum each kind is met.
+const IN_EARNEST: RangeInclusive<u64> = 1..=u64::MAX;
 
 const TRIALS: &[Trial] = &[
     Trial {
@@ -42,6 +50,7 @@ const TRIALS: &[Trial] = &[
         cuts: |cuts| cuts.ascending,
         functions: &[ANY, ASCENDING],
         accidents: BY_CHANCE,
+        left_out: Accident::ALL,
     },
     Trial {
         title: "sectors in no fixed order",
@@ -50,6 +59,25 @@ const TRIALS: &[Trial] = &[
         cuts: |cuts| cuts.sectors,
         functions: &[ANY, BY_SECTORS],
         accidents: BY_CHANCE,
+        left_out: Accident::ALL,
+    },
+    Trial {
+        title: "a weak checksum, bytes in ascending order",
+        tried: &Weak,
+        medium: Medium::Ascending,
+        cuts: |cuts| cuts.weak_ascending,
+        functions: &[ANY, ASCENDING],
+        accidents: IN_EARNEST,
+        left_out: Accident::OF_THE_NEW,
+    },
+    Trial {
+        title: "a weak checksum, sectors in no fixed order",
+        tried: &Weak,
+        medium: Medium::Sectors,
+        cuts: |cuts| cuts.weak_sectors,
+        functions: &[ANY, BY_SECTORS, OLDER_PASSING],
+        accidents: IN_EARNEST,
+        left_out: Accident::OF_THE_NEW,
     },
 ];
 
@@ -139,7 +167,9 @@ impl Trying {
         let left = cutting.left();
         if let Some(accident) = cutting.accident(left) {
             self.accidents[accident as usize] += 1;
-            return Ok(());
+            if self.trial.left_out.contains(&accident) {
+                return Ok(());
+            }
         }
         let expected = cutting.promised(left);
         let found = cutting.found(left);
@@ -154,7 +184,8 @@ impl Trying {
     fn print(&self) {
         self.run.counts.print();
         for accident in Accident::ALL {
-            println!("accidents, {}, left out: {}", accident.name(), self.accidents[*accident as usize]);
+            let fate = if self.trial.left_out.contains(accident) { "left out" } else { "tried" };
+            println!("accidents, {}, {fate}: {}", accident.name(), self.accidents[*accident as usize]);
         }
     }
 

@@ -46,6 +46,8 @@ pub enum Accident {
 
 impl Accident {
     pub const ALL: &'static [Self] = &[Self::Header, Self::NewPayload, Self::OldPayload];
+    /// Those that the proof needs left out.
+    pub const OF_THE_NEW: &'static [Self] = &[Self::Header, Self::NewPayload];
 
     pub fn name(self) -> &'static str {
         match self {

@@ -1,9 +1,11 @@
 //! What the Rust reference answers to one call of the judge.
+//!
+//! The reference is what lies beside this module: at the root the Rust, in `weak` the Rust over a weak checksum.
 
+use super::judge::{self, JudgeError, Judgement, PairRead, PairVerdict, SlotRead, SlotVerdict, Standing};
+use super::slot::{HeaderFacts, NumberedHeader, SlotInfo, SlotStatus};
+use super::slot_reference::{index_number, some_info};
 use crate::frames::{FRAME, HALF};
-use crate::judge::{self, JudgeError, Judgement, PairRead, PairVerdict, SlotRead, SlotVerdict, Standing};
-use crate::slot::{HeaderFacts, NumberedHeader, SlotInfo, SlotStatus};
-use crate::slot_reference::{index_number, some_info};
 
 pub const NO_PAIR: u32 = 8;
 pub const VERDICTS_LEN: u32 = 9;

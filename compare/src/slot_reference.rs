@@ -1,9 +1,11 @@
 //! What the Rust reference answers to one call of the slot and pair functions.
+//!
+//! The reference is what lies beside this module: at the root the Rust, in `weak` the Rust over a weak checksum.
 
+use super::pair::{self, PairReport, Winner};
+use super::slot::{self, EncodeError, Expect, HeaderFacts, SlotFields, SlotIndex, SlotInfo, SlotStatus};
 use crate::ffi::{Identity, Side, Version};
 use crate::ffi_pair::PairIdentity;
-use crate::pair::{self, PairReport, Winner};
-use crate::slot::{self, EncodeError, Expect, HeaderFacts, SlotFields, SlotIndex, SlotInfo, SlotStatus};
 
 /// The answer to an encoding: the checksum where it was not refused; the bytes are in the buffer.
 pub struct Encoded {
