@@ -46,8 +46,8 @@ pub trait Table {
     /// The names, in the order in which the cases are counted.
     const NAMES: &'static [&'static str];
 
-    // Each table goes by a `match` on the name: a function pointer that is called wants a `requires` where it comes in, and no public function
-    // has one. Input and answer go side by side: a struct of both would be made for this call alone.
+    // Each table goes by a `match` on the name: a function pointer that is called wants a `requires` where it comes in, and no public
+    // function has one. Input and answer go side by side: a struct of both would be made for this call alone.
     /// Packs the answer of the function of this name. There is none where the input is shorter than its arguments.
     fn answer(name: &[u8], input: &[u8], answer: &mut Bytes) -> Option<()>;
 

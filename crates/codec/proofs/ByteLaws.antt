@@ -1,4 +1,5 @@
--- Lists of bytes: parts and joins of bytes and what is written of a number are bytes, and lists that agree in front agree in what is read there.
+-- Lists of bytes: parts and joins of bytes and what is written of a number are bytes, and lists that agree in front agree in what is read
+-- there.
 use Rattle.std.proofs.Common.{◌≡◌, sym, ap, ◌∙◌, List, [], ◌∷◌, ◌++◌, ℕ, zero, suc, ◌+◌, ◌≤◌, arith, lit<, take, drop, replicate, take-take, get_or-drop}
 use Rattle.std.proofs.lemmas.List.{drop-take}
 use Rattle.std.specs.Int.{Width, byte_len, from_le_bytes, bytes_low_first}

@@ -8,13 +8,13 @@ use Rattle.std.specs.Simd.{first_chunks}
 use Rattle.codec.specs.Register.{bit_steps, byte_step, register}
 use Rattle.codec.proofs.ByteLaws.{number_bytes}
 use Rattle.codec.proofs.Message.{message-le64}
-use Rattle.codec.proofs.ShiftRegister.{bit_steps-xor, bit_steps-add, register-append, bitRegister, bitRegister-bits, register-bits}
+use Rattle.codec.proofs.ShiftRegister.{bit_steps-xor, bit_steps-add, register-append, bit_register, bit_register-bits, register-bits}
 
 -- ---- eight bytes
 
 pub register-le64 : (r v : ℕ) → v < 2 ^ 64 → register r (to_le_bytes w64 v) ≡ bit_steps 64 (bit_xor r v)
 register-le64 r v fits =
-    register-bits r (to_le_bytes w64 v) (number_bytes 0 8 v) ∙ ap (bitRegister r) (message-le64 v) ∙ bitRegister-bits 64 r v fits
+    register-bits r (to_le_bytes w64 v) (number_bytes 0 8 v) ∙ ap (bit_register r) (message-le64 v) ∙ bit_register-bits 64 r v fits
 
 -- What the bytes add to the register: each what the steps of itself and of those after it make of it.
 abbrev pub parts : List ℕ → ℕ

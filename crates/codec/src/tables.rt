@@ -1,5 +1,5 @@
-// The eight tables of the checksum, 2,048 words: `TABLES[k][b]` is what 8 * (k + 1) steps of the division make of the byte b, which is its part
-// in the register when k more bytes have come after it.
+// The eight tables of the checksum, 2,048 words: `TABLES[k][b]` is what 8 * (k + 1) steps of the division make of the byte b, which is its
+// part in the register when k more bytes have come after it.
 #[rattlefmt::skip]
 pub(crate) static TABLES: [[u32; 256]; 8] = [
     [

@@ -1,5 +1,5 @@
-// The cut theorem. What it says stands in specs/Cut.antt, what is assumed of the store in specs/Store.antt; specs/Laws.antt holds their words
-// to what they mean. A function without code does nothing: its contract is the theorem, or the laws.
+// The cut theorem. What it says stands in specs/Cut.antt, what is assumed of the store in specs/Store.antt; specs/Laws.antt holds their
+// words to what they mean. A function without code does nothing: its contract is the theorem, or the laws.
 #![tactic(auto)]
 
 ghost use Rattle.std.specs.Prelude.{◌≡◌, List, ℕ};

@@ -1,4 +1,5 @@
--- A slot's part of a frame shows what the slot as read shows, whatever stands in the fields that are not given, and is read back from its bytes.
+-- A slot's part of a frame shows what the slot as read shows, whatever stands in the fields that are not given, and is read back from its
+-- bytes.
 use Rattle.std.proofs.Common.{◌≡◌, refl, Bool, true, cond, List, [], ◌∷◌, ◌++◌, ℕ, ◌+◌, ◌<◌, arith, ne_eqb, leb, length, get_or, drop-cons, Option, Some, None, is_some}
 use Rattle.codec.proofs.ReadLaws.{Rest, onward, value_u32, value_u64}
 use Rattle.std.specs.Int.{w32, w64, to_le_bytes}

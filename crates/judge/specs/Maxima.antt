@@ -1,5 +1,5 @@
--- The rule by which the code finds the highest of the other numbers (docs/FORMAT.md, "The store verdict"): the two highest of all. So one pass over the slots answers for every
--- candidate. That it gives the same as `qualifies` of Numbers.antt is a law (proofs/NumberLaws.antt).
+-- The rule by which the code finds the highest of the other numbers (docs/FORMAT.md, "The store verdict"): the two highest of all. So one
+-- pass over the slots answers for every candidate. That it gives the same as `qualifies` of Numbers.antt is a law (proofs/NumberLaws.antt).
 use Rattle.std.specs.Prelude.{Bool, true, List, [], ◌∷◌, ℕ, ◌+◌, ◌==◌, max, min, if◌then◌else◌, Option, Some, None}
 use Rattle.slot.specs.declared.slot.SlotIndex.{SlotIndex}
 use Rattle.judge.specs.declared.pairs.Shown.{Shown}

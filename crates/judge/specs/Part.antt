@@ -1,4 +1,5 @@
--- A slot's part of a frame (docs/FORMAT.md, "Frames"): what it is filled with, its bytes, what bytes stand for, and what it shows the judge.
+-- A slot's part of a frame (docs/FORMAT.md, "Frames"): what it is filled with, its bytes, what bytes stand for, and what it shows the
+-- judge.
 use Rattle.std.specs.Prelude.{Bool, ◌&&◌, List, ◌∷◌, ◌++◌, ℕ, ◌+◌, ◌==◌, nat_le, if◌then◌else◌, get_or, Option, Some, None, is_some, unwrap_or, option_map}
 use Rattle.std.specs.Int.{w32, w64, to_le_bytes}
 use Rattle.codec.specs.Bytes.{le32, le64}

@@ -1,5 +1,5 @@
--- The passes as the code makes them (docs/FORMAT.md, "The store verdict"), a pair at a time: the first verdicts by the two highest numbers, the tally so far, and the slot to heal
--- found so far. That they give the same as the definition is a law (proofs/PassLaws.antt).
+-- The passes as the code makes them (docs/FORMAT.md, "The store verdict"), a pair at a time: the first verdicts by the two highest numbers,
+-- the tally so far, and the slot to heal found so far. That they give the same as the definition is a law (proofs/PassLaws.antt).
 use Rattle.std.specs.Prelude.{Bool, false, not, ◌&&◌, ◌||◌, List, [], ◌∷◌, ℕ, ◌+◌, if◌then◌else◌, Option}
 use Rattle.std.specs.Option.{option_or}
 use Rattle.slot.specs.declared.slot.SlotIndex.{SlotIndex}

@@ -1,5 +1,5 @@
--- Frames filled from pairs as they were read (docs/FORMAT.md, "Frames"): the judge over them answers as the judge over those pairs, whatever
--- stands in the fields that are not given.
+-- Frames filled from pairs as they were read (docs/FORMAT.md, "Frames"): the judge over them answers as the judge over those pairs,
+-- whatever stands in the fields that are not given.
 use Rattle.std.specs.Prelude.{◌≡◌, Bool, true, false, ◌||◌, List, [], ◌∷◌, ◌++◌, ℕ, ◌*◌, ◌^◌, ◌<◌, ◌==◌, nat_le, if◌then◌else◌, map, flat_map, Option, Some, None, ⊤}
 use Rattle.slot.specs.declared.slot.HeaderFacts.{HeaderFacts}
 use Rattle.judge.specs.declared.pairs.Version.{Version}

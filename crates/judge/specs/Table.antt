@@ -1,5 +1,5 @@
--- A frame's layout and the numbers of the judge's enums, spelled out (docs/FORMAT.md, "Frames", "The store verdict" and "Refusals"): bytes that
--- count up show each field's place and width.
+-- A frame's layout and the numbers of the judge's enums, spelled out (docs/FORMAT.md, "Frames", "The store verdict" and "Refusals"): bytes
+-- that count up show each field's place and width.
 use Rattle.std.specs.Prelude.{◌≡◌, ℕ, [], ◌∷◌, map}
 use Rattle.slot.specs.Table.{count}
 use Rattle.judge.specs.declared.pairs.Version.{Version}

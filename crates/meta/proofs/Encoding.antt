@@ -1,5 +1,5 @@
--- The bytes of a row of the grammar are the encoding of a scalar value, and a scalar value's encoding fits one of the rows: the value is computed
--- from the bytes, and the row goes by the range that the value is in.
+-- The bytes of a row of the grammar are the encoding of a scalar value, and a scalar value's encoding fits one of the rows: the value is
+-- computed from the bytes, and the row goes by the range that the value is in.
 use Rattle.std.proofs.Common.{◌≡◌, refl, Bool, true, false, ltb, ltb-true, ltb-false, sym, ◌∙◌, List, [], ◌∷◌, ℕ, ◌+◌, ◌-◌, ◌*◌, ◌/◌, ◌%◌, ◌≤◌, ◌<◌, arith, lt-ltb, le-ltb, length, get_or}
 use Rattle.meta.specs.Utf8.{Range, utf8_tail, utf8_char}
 use Rattle.meta.specs.Scalar.{encode, Scalar}

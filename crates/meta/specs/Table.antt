@@ -161,7 +161,8 @@ pub record Table : Type 0 where
   pub volume_written : volume_bytes volume_record ≡ volume
   pub base_read : decode_base base ≡ Ok base_record
   pub base_written : base_bytes base_record ≡ base
-  -- and refused with these: its length; features and flags, before all else; zeros at 4 and 40; sizes; the offset; zeros at 55 and 60; the rest.
+  -- and refused with these: its length; features and flags, before all else; zeros at 4 and 40; sizes; the offset; zeros at 55 and 60; the
+  -- rest.
   pub volume_length : answer (decode_volume (take 63 volume)) ∷ answer (decode_volume (volume ++ 0 ∷ [])) ∷ [] ≡ 11 ∷ 11 ∷ []
   pub volume_new : volume_with 32 1 ∷ volume_with 39 1 ∷ volume_with 56 1 ∷ volume_with 59 1 ∷ [] ≡ 20 ∷ 20 ∷ 21 ∷ 21 ∷ []
   pub volume_order : volume_with_two 32 56 ∷ volume_with_two 4 56 ∷ volume_with_two 0 4 ∷ volume_with_two 16 55 ∷ volume_with_two 18 60 ∷ [] ≡ 20 ∷ 21 ∷ 22 ∷ 13 ∷ 22 ∷ []

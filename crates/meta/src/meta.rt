@@ -164,8 +164,8 @@ impl RegionKind {
         self as u8
     }
 
-    // A row a case, here and of states: nothing but a `match` makes a case of a number. Kinds and states differ in their cases and refusals,
-    // so one function for both would be told them all.
+    // A row a case, here and of states: nothing but a `match` makes a case of a number. Kinds and states differ in their cases and
+    // refusals, so one function for both would be told them all.
 
     /// The kind of a stored byte.
     pub fn from_u8(v: u8) -> Result<Self, MetaError>
@@ -329,7 +329,8 @@ pub struct VolumeMeta {
 }
 
 impl VolumeMeta {
-    // As the record of 64 bytes and an entry: a length, the fields, the length. A function over the three would be told each of these, no plainer.
+    // As the record of 64 bytes and an entry: a length, the fields, the length. A function over the three would be told each of these, no
+    // plainer.
     /// Encodes the record into the first 48 bytes of `out`. A refusal keeps `out`.
     #[tactic(auto, unfolding(crate::specs::Base::encode_base), using(crate::proofs::BaseLaws::base_fits))]
     pub fn encode(&self, out: &mut [u8]) -> Result<usize, MetaError>

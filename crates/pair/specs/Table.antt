@@ -59,8 +59,8 @@ NoneValid =
     (map (λ s. standing (decide SlotStatus.Blank s)) not_valid ≡ 2 ∷ 2 ∷ 4 ∷ 2 ∷ 2 ∷ 3 ∷ 3 ∷ 2 ∷ 2 ∷ 2 ∷ 2 ∷ 2 ∷ [])
     × (map (λ s. standing (decide s SlotStatus.Blank)) not_valid ≡ 2 ∷ 2 ∷ 4 ∷ 2 ∷ 2 ∷ 3 ∷ 3 ∷ 2 ∷ 2 ∷ 2 ∷ 2 ∷ 2 ∷ [])
 
--- Of two Valid slots: both codes, standing and slot of the winner, gap, chain break, next write. One generation is a Fork; the higher one wins; a gap
--- where it is not the next one; else a break where it does not name the older header's checksum.
+-- Of two Valid slots: both codes, standing and slot of the winner, gap, chain break, next write. One generation is a Fork; the higher one
+-- wins; a gap where it is not the next one; else a break where it does not name the older header's checksum.
 abbrev pub TwoValid : Type 0
 TwoValid =
     (report_numbers (decide (version 2 7 8) (version 2 8 7)) ≡ 12 ∷ 12 ∷ 5 ∷ 0 ∷ 0 ∷ 0 ∷ 0 ∷ [])

@@ -8,8 +8,8 @@
 // cannot be read or holds what an ordinary history never produces there (another volume's or object's slot, a misdirected slot, bytes that
 // are no slot, or impossible fields): the newer version may have been destroyed, so the caller must decide whether to trust the survivor.
 //
-// Two valid slots of one generation are a fork (two writers, or a replayed write), and no winner is chosen. A slot written by a newer format
-// makes the pair refused: this version neither reads nor overwrites it.
+// Two valid slots of one generation are a fork (two writers, or a replayed write), and no winner is chosen. A slot written by a newer
+// format makes the pair refused: this version neither reads nor overwrites it.
 ghost use Rattle.std.specs.Prelude.{◌≡◌};
 ghost use Rattle.slot.specs.Numbers.{choice_number};
 ghost use Rattle.pair.specs.Pair.{refused, explains_survivor, survivor, decide, status, winner_info, next_write};
@@ -37,8 +37,8 @@ pub enum Winner {
 }
 
 impl Winner {
-    // The number of a standing: 0 to 3 as of a verdict, 4 Empty, 5 Fork. By a `match`, as `slot`, since a cast numbers no case that holds a slot; not
-    // one function with a verdict's number, since a verdict has four cases and none of them holds one.
+    // The number of a standing: 0 to 3 as of a verdict, 4 Empty, 5 Fork. By a `match`, as `slot`, since a cast numbers no case that holds a
+    // slot; not one function with a verdict's number, since a verdict has four cases and none of them holds one.
     pub fn number(self) -> u8
         ensures { result ≡ winner_number self }
     {

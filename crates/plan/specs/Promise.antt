@@ -1,5 +1,5 @@
--- What a planned write keeps: it is the cut theorem's correct write, the store survives where it is cut, and a write that is finished leaves
--- a sound store (docs/FORMAT.md, "What a correct write is").
+-- What a planned write keeps: it is the cut theorem's correct write, the store survives where it is cut, and a write that is finished
+-- leaves a sound store (docs/FORMAT.md, "What a correct write is").
 use Rattle.std.specs.Prelude.{◌≡◌, Bool, Option, Some, Result, Ok, true, false, List, ◌∷◌, ◌++◌, ℕ, ◌+◌, ◌*◌, ◌^◌, ◌≤◌, ◌<◌, length}
 use Rattle.codec.specs.Bytes.{AllBytes}
 use Rattle.slot.specs.declared.slot.SlotIndex.{SlotIndex}

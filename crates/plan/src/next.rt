@@ -38,9 +38,9 @@ fn fields_of(
     }
 }
 
-// Plans the next write of the pair at `pair`, whose slots are read with `a` and `b`, and encodes it in format 2 into `slot`. Answers the plan
-// and the header's checksum; None where nothing is planned. Where a power cut ends the write of these bytes to the planned slot, in ascending
-// order or by sectors, the store survives.
+// Plans the next write of the pair at `pair`, whose slots are read with `a` and `b`, and encodes it in format 2 into `slot`. Answers the
+// plan and the header's checksum; None where nothing is planned. Where a power cut ends the write of these bytes to the planned slot, in
+// ascending order or by sectors, the store survives.
 #[tactic(auto, unfolding(crate::specs::Next::next_write))]
 pub fn next_write(
     frames: &[u8],

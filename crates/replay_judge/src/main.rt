@@ -14,8 +14,8 @@
 // - JUDGEMENT: the slot to heal, its pair, writable, clean, refused (8 each).
 // - Verdicts have 4 bytes each. Before the judge over the row is called they are Lost, no winner, Damage and Damage.
 //
-// A refusal of the judge over frames that changes what it was lent is packed as an answer, so that the case differs. Where the judges differ
-// both answers are packed.
+// A refusal of the judge over frames that changes what it was lent is packed as an answer, so that the case differs. Where the judges
+// differ both answers are packed.
 #![tactic(auto)]
 
 use cases::input::{first_length, first_u8, narrow};

@@ -14,7 +14,8 @@ use slot::slot::{HeaderFacts, NumberedHeader, SlotStatus};
 
 // ---- the record of a frame
 
-// A number that is no status stands for a slot that was not read. A line in `plan` too: a method for both would say no more than `unwrap_or`.
+// A number that is no status stands for a slot that was not read. A line in `plan` too: a method for both would say no more than
+// `unwrap_or`.
 fn status_from(part: SlotPart) -> SlotStatus
     ensures { result ≡ status_from part }
 {

@@ -11,8 +11,8 @@ use crate::slot::{
 };
 use codec::crc32c::{crc32c, crc32c_gap};
 
-// Validates one slot read from `e.slot_offset`. Bytes and what is expected of them are two arguments, as in the Rust: a struct of both would
-// be made for this call alone. `numbers` says the same in the numbers that C gets, a promise on which callers may rest.
+// Validates one slot read from `e.slot_offset`. Bytes and what is expected of them are two arguments, as in the Rust: a struct of both
+// would be made for this call alone. `numbers` says the same in the numbers that C gets, a promise on which callers may rest.
 #[tactic(auto, using(crate::proofs::Room::room), unfolding(crate::specs::Read::validate))]
 pub fn validate(slot: &[u8], e: &Expect) -> SlotStatus
     ensures value { result ≡ validate slot.now e.now }

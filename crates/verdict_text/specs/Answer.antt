@@ -1,5 +1,6 @@
--- What program `verdicts` answers to a text (docs/FORMAT.md, "The program verdicts"), what it leaves of the text that a reader has, and what
--- it adds to the bytes that a writer holds. Readers and writers in memory say what they have and hold; of others these facts claim nothing.
+-- What program `verdicts` answers to a text (docs/FORMAT.md, "The program verdicts"), what it leaves of the text that a reader has, and
+-- what it adds to the bytes that a writer holds. Readers and writers in memory say what they have and hold; of others these facts claim
+-- nothing.
 use Rattle.std.specs.Prelude.{◌≡◌, Bool, false, if◌then◌else◌, ◌||◌, nat_lt, List, ℕ, ◌*◌, ◌/◌, ◌<◌, length, take, drop, Option, Some, None, Result, Ok, Err, IfSome}
 use Rattle.std.specs.Int.{from_bool}
 use Rattle.std.specs.Io.KnownBytes.{Keeps, Appends}

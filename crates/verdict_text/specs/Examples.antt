@@ -1,5 +1,5 @@
--- What is printed for the store of docs/FORMAT.md, "The program verdicts", whose second pair has a torn payload, for one with a torn header,
--- for a mark alone, for a wrong mark and for a longer text.
+-- What is printed for the store of docs/FORMAT.md, "The program verdicts", whose second pair has a torn payload, for one with a torn
+-- header, for a mark alone, for a wrong mark and for a longer text.
 use Rattle.std.specs.Prelude.{◌≡◌, ◌++◌, codes}
 use Rattle.verdict_text.specs.declared.answer.Refusal.{Refusal}
 use Rattle.verdict_text.specs.Write.{refusal_line}

@@ -109,8 +109,8 @@ fn read_text<R: Read>(input: &mut R, text: &mut [u8]) -> io::Result<(usize, bool
     Ok((held, more))
 }
 
-// By how many bytes are held, here and in `put`: each call tells how many it gave or took, and a loop without that number would cut the rest
-// off a slice that is lent to it, no plainer.
+// By how many bytes are held, here and in `put`: each call tells how many it gave or took, and a loop without that number would cut the
+// rest off a slice that is lent to it, no plainer.
 
 // Reads until `buffer` is full or the input ends, and tells how many bytes stand at its start.
 fn fill<R: Read>(input: &mut R, buffer: &mut [u8]) -> io::Result<usize>
@@ -129,8 +129,8 @@ fn fill<R: Read>(input: &mut R, buffer: &mut [u8]) -> io::Result<usize>
     Ok(held)
 }
 
-// One read, made again where a signal interrupts it. Not one function with `write_some`: it would take the call as a closure, whose contract
-// would be that of `read` or of `write` once more.
+// One read, made again where a signal interrupts it. Not one function with `write_some`: it would take the call as a closure, whose
+// contract would be that of `read` or of `write` once more.
 fn read_some<R: Read>(input: &mut R, buffer: &mut [u8]) -> io::Result<usize>
     ensures bound { ReadsAtMost result buffer.new }
     ensures bytes { ReadConsumes (R.remaining input.old) (R.remaining input.new) result buffer.new }

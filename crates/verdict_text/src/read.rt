@@ -1,4 +1,5 @@
-// The lines that are read: the clean mark, `00` or `01`, then a frame a line, two lower-case hexadecimal digits a byte. A newline ends each.
+// The lines that are read: the clean mark, `00` or `01`, then a frame a line, two lower-case hexadecimal digits a byte. A newline ends
+// each.
 ghost use Rattle.std.specs.Prelude.{◌≡◌, ◌+◌, ◌*◌, ◌/◌, ◌≤◌, length, take, IfSome, MatchOption, ◌==◌, ◌<◌};
 ghost use Rattle.std.specs.List.{list_all, position};
 ghost use Rattle.verdict_text.specs.Read.{is_digit, cut, mark_of, frame_of, line_width, frames_in, store_in};
