@@ -15,6 +15,7 @@ use Rattle.judge.specs.declared.verdict.SlotVerdict.{SlotVerdict}
 use Rattle.judge.specs.declared.verdict.PairVerdict.{PairVerdict}
 use Rattle.cut.specs.Store.{Every, Slot, Pair, shown, last_record, last_records, Typed, SoundPair, Sound}
 use Rattle.cut.specs.Cut.{Write, store, size, old, new, left, with_bytes, with_slot, after, Possible, CorrectWrite, whole, Accident, is_empty, handed, ReadBack, AllReadBack, Survives, CutTheorem}
+use Rattle.cut.specs.Laws.{OlderSurvived}
 use Rattle.cut.proofs.StatusLaws.{false_true}
 use Rattle.cut.proofs.JudgeLaws.{settled_verdict, Settled, Explained, explained_standing, Healed, row_confirmed, row_verdicts, row_writable, row_heal}
 use Rattle.cut.proofs.FrameLaws.{PairTyped, row_judged, row_written, judged_row, judged_bytes}
@@ -243,9 +244,13 @@ module _ (w : Write) (sound_before : Every SoundPair w.before) (sound : SoundPai
       }
 
 -- The store's clean mark plays no part: the judge is handed false, or a mark that meets no candidate.
-pub cut_theorem : CutTheorem
-cut_theorem w sound no_mark correct possible none out room =
+pub older_survived : OlderSurvived
+older_survived w sound no_mark correct possible none out room =
     let all = sound_pairs sound in
     let from_pair : Every SoundPair (w.pair ∷ w.behind) = every_behind w.before (w.pair ∷ w.behind) all in
-    survives w (every_before w.before (w.pair ∷ w.behind) all) (every_first from_pair) (every_rest from_pair) correct possible
-    (none_of_either w.tear none) out room
+    survives w (every_before w.before (w.pair ∷ w.behind) all) (every_first from_pair) (every_rest from_pair) correct possible none out room
+
+-- Nor does what sectors add to the accidents.
+pub cut_theorem : CutTheorem
+cut_theorem w sound no_mark correct possible none out room =
+    older_survived w sound no_mark correct possible (none_of_either w.tear none) out room

@@ -7,13 +7,14 @@ use Rattle.slot.specs.Payload.{payload}
 use Rattle.slot.specs.Read.{header_facts, header_sum}
 use Rattle.slot.specs.Write.{encode, header_crc}
 use Rattle.slot.specs.declared.slot.Expect.{Expect}
+use Rattle.judge.specs.Frames.{verdict_width}
 use Rattle.judge.specs.Part.{part_of, part_bytes}
 use Rattle.judge.specs.declared.pairs.Version.{Version}
 use Rattle.meta.specs.Volume.{decode_volume}
 use Rattle.meta.specs.Page.{decode_page}
 use Rattle.meta.specs.declared.meta.MetaError.{MetaError}
-use Rattle.cut.specs.Store.{Volume, Page, accepts, clean_mark, Pair, slot_at, status, frames, store_mark, SoundPair}
-use Rattle.cut.specs.Cut.{Ascending, Sectors, Write, size, old, new, torn, left, CutPoint, Possible, CorrectWrite, whole, header_passes, payload_in, Accident, payload_by, SectorAccident, handed, PayloadIs}
+use Rattle.cut.specs.Store.{Volume, Page, accepts, clean_mark, Pair, slot_at, status, frames, store_mark, SoundPair, Sound}
+use Rattle.cut.specs.Cut.{Ascending, Sectors, Write, store, size, old, new, torn, left, CutPoint, Possible, CorrectWrite, whole, header_passes, payload_in, Accident, payload_by, SectorAccident, handed, PayloadIs, Survives}
 
 -- ---- the decoders
 
@@ -88,6 +89,13 @@ OlderAtMost =
     (s old new payload : List ℕ) → (Accident s old new payload → ⊥)
     → (header_passes s ≡ true → take 128 s ≡ take 128 old → crc32c (payload_by old s) ≡ le32 s 28 → payload_by old s ≡ payload_by old old)
     → SectorAccident s old new payload → ⊥
+
+-- The theorem does not need that there is none: its conclusion holds where that one alone happened.
+abbrev pub OlderSurvived : Type 0
+OlderSurvived =
+    (w : Write) → Sound (store w) → store_mark (store w) ≡ false → CorrectWrite w → Possible w.tear (size w)
+    → (Accident (left w) (old w) (new w) w.payload → ⊥)
+    → (out : List ℕ) → length out ≡ length (store w) * verdict_width → Survives w out
 
 -- In ascending order that one cannot happen: a slot with the old header is the old slot,
 abbrev pub OldHeaderKept : Type 0

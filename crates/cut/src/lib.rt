@@ -7,7 +7,7 @@ ghost use Rattle.pair.specs.Winner.{read_pair};
 ghost use Rattle.judge.specs.Same.{NothingGiven, ChecksumGiven};
 ghost use Rattle.cut.specs.Store.{Pair};
 ghost use Rattle.cut.specs.Cut.{CutTheorem, PayloadIs};
-ghost use Rattle.cut.specs.Laws.{VolumeRefused, PageRefused, Encoded, EachSector, AnySectors, UnmarkedRecord, UnmarkedStore, PageHanded, TornHanded, WholeHanded, FailedSum, FailedPayload, OlderAtMost, OldHeaderKept, NoneInOrder, PairFrame, OnePayload, HasSlots};
+ghost use Rattle.cut.specs.Laws.{VolumeRefused, PageRefused, Encoded, EachSector, AnySectors, UnmarkedRecord, UnmarkedStore, PageHanded, TornHanded, WholeHanded, FailedSum, FailedPayload, OlderAtMost, OlderSurvived, OldHeaderKept, NoneInOrder, PairFrame, OnePayload, HasSlots};
 
 use pair::pair::PairReport;
 use slot::slot::Expect;
@@ -56,6 +56,11 @@ pub fn no_accident()
     ensures header { FailedSum }
     ensures payload { FailedPayload }
     ensures older { OlderAtMost }
+{}
+
+// The accident that only sectors add does no harm.
+pub fn older_survived()
+    ensures { OlderSurvived }
 {}
 
 // Where bytes reach the slot in ascending order, the accident that only sectors add cannot happen.
