@@ -17,7 +17,7 @@ use Rattle.judge.specs.Same.{filled}
 use Rattle.judge.specs.declared.records.SlotRead.{SlotRead}
 use Rattle.meta.specs.Entry.{entry_bytes}
 use Rattle.meta.specs.Page.{header_at, decode_page, entries, header_bytes as page_header_bytes, page_bytes}
-use Rattle.cut.specs.Store.{Every, Page, accepts, SoundPair, Beside, Sound}
+use Rattle.cut.specs.Store.{Every, Page, accepts, SoundPair, Sound}
 use Rattle.cut.specs.Cut.{Sectors, by_sector, torn, CorrectWrite, stands_whole, whole}
 use Rattle.cut.proofs.ByteLaws.{bytes_tested}
 use Rattle.cut.proofs.PairLaws.{sound_won}
@@ -25,7 +25,7 @@ use Rattle.cut_examples.specs.Stores.{long_record, zeros_for, volume_pair, secon
 use Rattle.cut_examples.specs.Writes.{IsMet, StoresSound, long_fields, long_write, neither, the_first, the_second, both, LongMet, LongWhole}
 use Rattle.cut_examples.specs.Computed.{torn_payload, valid_read}
 use Rattle.cut_examples.specs.Cuts.{SectorCuts}
-use Rattle.cut_examples.proofs.Writes.{Known, fields_fit, written_known, sound, later_store_sound, sound_with, unmarked_with, highest_with, tear_tests, met_by, write_correct, summed_slot, summed_is}
+use Rattle.cut_examples.proofs.Writes.{Known, fields_fit, written_known, both_written, sound, later_store_sound, sound_with, unmarked_with, highest_with, tear_tests, met_by, write_correct, summed_slot, summed_is}
 use Rattle.cut_examples.proofs.SlotsRead.{read_once, read_once_is, pair_record}
 use Rattle.cut_examples.proofs.Computed.{Written, page_at}
 
@@ -100,15 +100,8 @@ new_slot_is = summed_is long_fields new_record 0x4d45_7736 0xb775_a3e1 none_refu
 -- ---- the store and the write
 
 unfoldable long_sound : SoundPair long_page
-long_sound =
-    record {
-      slots = elim [ SlotIndex.A ↦ older_known.slot | SlotIndex.B ↦ newer_known.slot ];
-      newer = SlotIndex.B;
-      info = info_of long_newer_fields newer_record;
-      valid = newer_known.valid;
-      accepted = newer_known.accepted;
-      beside = Beside.both (info_of long_older_fields older_record) older_known.valid refl (lit< tt) (sym header_sums.0) older_known.accepted;
-    }
+unfolding both_written
+long_sound = both_written older_known newer_known refl (lit< tt) (sym header_sums.0)
 
 long_store_sound : Sound long_store
 long_store_sound = sound_with long_page refl long_sound
@@ -121,7 +114,7 @@ unfolding page_bytes page_header_bytes entry_bytes
 record_fits = lit≤ tt
 
 long_correct : (reached : ℕ → Bool) → CorrectWrite (long_write reached)
-unfolding long_sound
+unfolding long_sound both_written
 long_correct reached =
     write_correct (volume_pair ∷ []) long_page (second_page ∷ [])
     (highest_with long_page (info_of long_older_fields older_record) (info_of long_newer_fields newer_record) older_known.valid newer_known.valid)

@@ -216,17 +216,23 @@ unfoldable volume_sound : SoundPair volume_pair
 unfolding first_written
 volume_sound = first_written 0 1 (volume_record false) Volume (lit≤ tt) volume_known
 
-unfoldable first_sound : SoundPair first_page
-first_sound =
+-- A, and B of the generation after it.
+unfoldable pub both_written : {a b : SlotFields} {older newer : List ℕ} {decoder : Decoder} → Known a older decoder → Known b newer decoder
+    → b.generation ≡ a.generation + 1 → a.meta_seq < b.meta_seq → b.prev_header_crc32c ≡ header_crc a older
+    → SoundPair (record { a = written_slot a older; b = written_slot b newer; decoder = decoder })
+both_written {a} {b} {older} {newer} older_known newer_known next higher linked =
     record {
       slots = elim [ SlotIndex.A ↦ older_known.slot | SlotIndex.B ↦ newer_known.slot ];
       newer = SlotIndex.B;
-      info = info_of newer_fields (page_record 0 2);
+      info = info_of b newer;
       valid = newer_known.valid;
       accepted = newer_known.accepted;
-      beside =
-          Beside.both (info_of older_fields (page_record 0 1)) older_known.valid refl (lit< tt) (sym older_sums.0) older_known.accepted;
+      beside = Beside.both (info_of a older) older_known.valid next higher linked older_known.accepted;
     }
+
+unfoldable first_sound : SoundPair first_page
+unfolding both_written
+first_sound = both_written older_known newer_known refl (lit< tt) (sym older_sums.0)
 
 unfoldable second_sound : SoundPair second_page
 unfolding first_written
@@ -334,7 +340,7 @@ point size k = go (eqb k 0) refl (leb 8 k) refl
 
 -- They are enough.
 module _ (size : ℕ) (before after payload : List ℕ) where
-  pub tested : (tear : Tear) → tear_tests size tear after before payload ≡ true
+  tested : (tear : Tear) → tear_tests size tear after before payload ≡ true
       → Possible tear size × (AccidentBy tear (torn tear after before) before after payload → ⊥)
   tested (Ascending k) = go (point_test size k) refl
     where
@@ -415,7 +421,7 @@ new_fits : Fits new_fields
 new_fits = fields_fit 9 1 SlotIndex.A 3 0xe83c_e718 5 (lit< tt) (lit< tt) (lit< tt) (lit< tt) (lit< tt) (lit< tt)
 
 page_correct : (k : ℕ) → CorrectWrite (page_write k)
-unfolding first_sound
+unfolding first_sound both_written
 page_correct k =
     write_correct (volume_pair ∷ []) first_page (second_page ∷ []) highest_number new_fields new_fits refl refl refl
     (info_of newer_fields (page_record 0 2)) (sound_won first_page first_sound) refl (sym newer_sums.0) (page_record 0 0x304) (page_bytes 0 0x304)
