@@ -65,7 +65,7 @@ pub record PlannedFor (given : List ℕ) (i : ℕ) (a b : Expect) (payload : Lis
   pub planned : answer ≡ Ok (Some (plan, crc))
   pub accepted : accepts p.decoder payload ≡ true
 
--- Where so the write of the bytes to the planned slot is cut without an accident, in ascending order or by sectors, the store survives.
+-- Where the write of the bytes to the planned slot is then cut without an accident, in ascending order or by sectors, the store survives.
 abbrev pub SurvivesCuts : List ℕ → ℕ → Expect → Expect → ℕ → ℕ → List ℕ → List ℕ → List ℕ → Answer → Type 0
 SurvivesCuts given i a b owner compat payload buffer written answer =
     (before : List Pair) (p : Pair) (behind : List Pair) (plan : Plan) (tear : Tear) (verdicts : List ℕ)
