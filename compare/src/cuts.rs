@@ -25,60 +25,58 @@ pub struct Cuts {
     pub weak_sectors: u64,
 }
 
-struct Trial {
-    title: &'static str,
+/// Whose slots are cut, and what its checksum lets pass.
+struct Subject {
     tried: &'static dyn Implementation,
-    medium: Medium,
-    cuts: fn(&Cuts) -> u64,
-    functions: &'static [&'static [Function]],
-    /// How many there may be of each kind that the medium can leave.
+    /// How many accidents there may be of each kind that the medium can leave.
     accidents: RangeInclusive<u64>,
     /// The kinds after which nothing is promised.
     left_out: &'static [Accident],
 }
 
 /// One torn slot in 2^32 passes a checksum by accident: where more do, the library's checksum or reader is wrong.
-const BY_CHANCE: RangeInclusive<u64> = 0..=2;
+const LIBRARY: Subject = Subject { tried: &Library, accidents: 0..=2, left_out: Accident::ALL };
+
 /// Of a weak checksum each kind is met.
-const IN_EARNEST: RangeInclusive<u64> = 1..=u64::MAX;
+const WEAK: Subject = Subject { tried: &Weak, accidents: 1..=u64::MAX, left_out: Accident::OF_THE_NEW };
+
+struct Trial {
+    title: &'static str,
+    subject: Subject,
+    medium: Medium,
+    cuts: fn(&Cuts) -> u64,
+    functions: &'static [&'static [Function]],
+}
+
+impl Trial {
+    const fn new(
+        title: &'static str,
+        subject: Subject,
+        medium: Medium,
+        cuts: fn(&Cuts) -> u64,
+        functions: &'static [&'static [Function]],
+    ) -> Self {
+        Self { title, subject, medium, cuts, functions }
+    }
+}
 
 const TRIALS: &[Trial] = &[
-    Trial {
-        title: "bytes in ascending order",
-        tried: &Library,
-        medium: Medium::Ascending,
-        cuts: |cuts| cuts.ascending,
-        functions: &[ANY, ASCENDING],
-        accidents: BY_CHANCE,
-        left_out: Accident::ALL,
-    },
-    Trial {
-        title: "sectors in no fixed order",
-        tried: &Library,
-        medium: Medium::Sectors,
-        cuts: |cuts| cuts.sectors,
-        functions: &[ANY, BY_SECTORS],
-        accidents: BY_CHANCE,
-        left_out: Accident::ALL,
-    },
-    Trial {
-        title: "a weak checksum, bytes in ascending order",
-        tried: &Weak,
-        medium: Medium::Ascending,
-        cuts: |cuts| cuts.weak_ascending,
-        functions: &[ANY, ASCENDING],
-        accidents: IN_EARNEST,
-        left_out: Accident::OF_THE_NEW,
-    },
-    Trial {
-        title: "a weak checksum, sectors in no fixed order",
-        tried: &Weak,
-        medium: Medium::Sectors,
-        cuts: |cuts| cuts.weak_sectors,
-        functions: &[ANY, BY_SECTORS, OLDER_PASSING],
-        accidents: IN_EARNEST,
-        left_out: Accident::OF_THE_NEW,
-    },
+    Trial::new("bytes in ascending order", LIBRARY, Medium::Ascending, |cuts| cuts.ascending, &[ANY, ASCENDING]),
+    Trial::new("sectors in no fixed order", LIBRARY, Medium::Sectors, |cuts| cuts.sectors, &[ANY, BY_SECTORS]),
+    Trial::new(
+        "a weak checksum, bytes in ascending order",
+        WEAK,
+        Medium::Ascending,
+        |cuts| cuts.weak_ascending,
+        &[ANY, ASCENDING],
+    ),
+    Trial::new(
+        "a weak checksum, sectors in no fixed order",
+        WEAK,
+        Medium::Sectors,
+        |cuts| cuts.weak_sectors,
+        &[ANY, BY_SECTORS, OLDER_PASSING],
+    ),
 ];
 
 /// One in so many of a trial's cuts must be of each of the four kinds of write.
@@ -125,7 +123,7 @@ impl Trying {
 
     /// Whole writes until there are `cuts` cuts.
     fn try_writes(&mut self, cuts: u64) -> Checked {
-        let Trial { tried, medium, .. } = *self.trial;
+        let Trial { subject: Subject { tried, .. }, medium, .. } = *self.trial;
         while self.run.counts.total() < cuts {
             let mut store = random_store(&mut self.run.rng, tried, medium);
             let write = random_write(&mut self.run.rng, tried, medium, &mut store);
@@ -143,7 +141,7 @@ impl Trying {
                 continue;
             }
             let expected = ReadBack::untouched(pair);
-            let found = ReadBack::found(self.trial.tried, pair, &pair.slots);
+            let found = ReadBack::found(self.trial.subject.tried, pair, &pair.slots);
             self.run.check(UNTOUCHED, found == expected, || Report {
                 inputs: pair_fields(at, pair),
                 expected: expected.fields(),
@@ -154,7 +152,7 @@ impl Trying {
     }
 
     fn every_cut(&mut self, store: &[Pair], write: &Write) -> Checked {
-        let mut cutting = Cutting::new(self.trial.tried, store, write);
+        let mut cutting = Cutting::new(self.trial.subject.tried, store, write);
         let function = function(&store[write.pair]);
         for tear in self.trial.medium.tears(&mut self.run.rng, write.new.len()) {
             self.one_cut(&mut cutting, function, write, tear)?;
@@ -167,7 +165,7 @@ impl Trying {
         let left = cutting.left();
         if let Some(accident) = cutting.accident(left) {
             self.accidents[accident as usize] += 1;
-            if self.trial.left_out.contains(&accident) {
+            if self.trial.subject.left_out.contains(&accident) {
                 return Ok(());
             }
         }
@@ -184,7 +182,7 @@ impl Trying {
     fn print(&self) {
         self.run.counts.print();
         for accident in Accident::ALL {
-            let fate = if self.trial.left_out.contains(accident) { "left out" } else { "tried" };
+            let fate = if self.trial.subject.left_out.contains(accident) { "left out" } else { "tried" };
             println!("accidents, {}, {fate}: {}", accident.name(), self.accidents[*accident as usize]);
         }
     }
@@ -199,7 +197,7 @@ impl Trying {
                 Accident::OldPayload => self.trial.medium == Medium::Sectors,
             };
             let met = self.accidents[*accident as usize];
-            let allowed = if possible { self.trial.accidents.clone() } else { 0..=0 };
+            let allowed = if possible { self.trial.subject.accidents.clone() } else { 0..=0 };
             if !allowed.contains(&met) {
                 faults.push(format!("accidents, {}: {met}, not in {allowed:?}", accident.name()));
             }
