@@ -1,17 +1,16 @@
 -- The slot that a cut write left, by its header: the new one, the old one, or one whose magic stands and which fails its checksum. That
 -- is the only place where it counts how the write was cut.
-use Rattle.std.proofs.Common.{◌≡◌, refl, sym, ap, ◌∙◌, ◌⊎◌, inl, inr, Bool, true, false, cond, ◌==◌, nat_eq, nat_le, List, ◌++◌, ℕ, ◌+◌, ◌≤◌, arith, eqb-true, leb-true, leb-false, length, take, drop, length-append, length-take, length-drop, take-take, take-append-drop, take_at, length-take-le}
+use Rattle.std.proofs.Common.{◌≡◌, refl, sym, ap, ◌∙◌, ◌⊎◌, inl, inr, Bool, true, false, cond, ◌==◌, nat_eq, nat_le, List, [], ◌∷◌, ◌++◌, ℕ, zero, suc, ◌+◌, ◌≤◌, ◌<◌, arith, get_or, eqb-true, leb-true, leb-false, length, take, drop, length-append, length-take, length-drop, take-take, take-append-drop, take_at, length-take-le}
 use Rattle.std.proofs.Math.Seq.{take-append-le}
 use lib.Pointwise.{pointwise, bytes_decides}
 use Rattle.codec.specs.Bytes.{AllBytes, le16, le32}
-use Rattle.codec.proofs.ByteLaws.{take-bytes, drop-bytes, append-bytes}
 use Rattle.slot.specs.Header.{magic}
 use Rattle.slot.specs.Read.{header_sum}
 use Rattle.slot.proofs.Tests.{both}
 use Rattle.cut.specs.Cut.{Tear, Ascending, Sectors, cut, torn, CutPoint, Possible, stands_whole, header_passes, Accident, SectorAccident, AccidentBy}
 use Rattle.cut.specs.Laws.{FailedSum, FailedPayload, OlderAtMost}
 use Rattle.cut.proofs.StatusLaws.{false_true}
-use Rattle.cut.proofs.SectorLaws.{sector_bytes, length_sectors, within_sector}
+use Rattle.cut.proofs.SectorLaws.{sector_byte, length_sectors, within_sector}
 
 pub not_same : (s t : List ℕ) → (s ≡ t → ⊥) → pointwise nat_eq s t ≡ false
 not_same s t differ = go (pointwise nat_eq s t) refl
@@ -25,9 +24,14 @@ differ s t not_equal is = false_true {A = ⊥} not_equal ((bytes_decides s t).1 
 
 -- ---- the bytes of a cut in ascending order
 
-cut_bytes : (k : ℕ) (new old : List ℕ) → AllBytes new → AllBytes old → AllBytes (cut k new old)
-unfolding cut
-cut_bytes k new old new_all old_all = append-bytes (take k new) (drop k old) (take-bytes k new new_all) (drop-bytes k old old_all)
+cut_byte : (k j : ℕ) (new old : List ℕ) → length old ≡ length new
+    → (get_or (take k new ++ drop k old) j 0 ≡ get_or old j 0) ⊎ (get_or (take k new ++ drop k old) j 0 ≡ get_or new j 0)
+cut_byte zero j new old sizes = inl refl
+cut_byte (suc k) j [] [] sizes = inl refl
+cut_byte (suc k) j [] (y ∷ old) sizes = absurd (omega arith)
+cut_byte (suc k) j (x ∷ new) [] sizes = absurd (omega arith)
+cut_byte (suc k) zero (x ∷ new) (y ∷ old) sizes = inr refl
+cut_byte (suc k) (suc j) (x ∷ new) (y ∷ old) sizes = cut_byte k j new old (omega arith)
 
 module _ (k : ℕ) (new old : List ℕ) (sizes : length old ≡ length new) (point : CutPoint k (length new)) where
   within : k ≤ length new
@@ -82,13 +86,14 @@ pub data Header (s old new : List ℕ) : Type 0 where
   is_new : take 128 s ≡ take 128 new → Header s old new
   is_old : (take 128 s ≡ take 128 new → ⊥) → take 128 s ≡ take 128 old → Header s old new
   fails : (take 128 s ≡ take 128 new → ⊥) → take 8 s ≡ magic → header_passes s ≡ false → Header s old new
+  neither : (take 128 s ≡ take 128 new → ⊥) → (take 128 s ≡ take 128 old → ⊥) → header_passes s ≡ true → Header s old new
 
-header_of : (s old new payload : List ℕ) → (Accident s old new payload → ⊥) → (s ≡ old) ⊎ (take 8 s ≡ magic) → Header s old new
-header_of s old new payload none = go (pointwise nat_eq (take 128 s) (take 128 new)) refl
+header_of : (s old new : List ℕ) → (s ≡ old) ⊎ (take 8 s ≡ magic) → Header s old new
+header_of s old new = go (pointwise nat_eq (take 128 s) (take 128 new)) refl
   where
     by_old : (test : Bool) → pointwise nat_eq (take 128 s) (take 128 old) ≡ test → (take 128 s ≡ take 128 new → ⊥) → header_passes s ≡ true → Header s old new
-    by_old true is not_new passes = is_old not_new ((bytes_decides (take 128 s) (take 128 old)).0 is)
-    by_old false is not_new passes = absurd (none (Accident.header passes (differ (take 128 s) (take 128 old) is) not_new))
+    by_old true is not_new sum = is_old not_new ((bytes_decides (take 128 s) (take 128 old)).0 is)
+    by_old false is not_new sum = neither not_new (differ (take 128 s) (take 128 old) is) sum
 
     by_sum : (test : Bool) → header_passes s ≡ test → (take 128 s ≡ take 128 new → ⊥) → take 8 s ≡ magic → Header s old new
     by_sum true is not_new stands = by_old (pointwise nat_eq (take 128 s) (take 128 old)) refl not_new is
@@ -98,11 +103,6 @@ header_of s old new payload none = go (pointwise nat_eq (take 128 s) (take 128 n
     go true is either = is_new ((bytes_decides (take 128 s) (take 128 new)).0 is)
     go false is (inl kept) = is_old (differ (take 128 s) (take 128 new) is) (ap (take 128) kept)
     go false is (inr stands) = by_sum (header_passes s) refl (differ (take 128 s) (take 128 new) is) stands
-
-cut_header : (k : ℕ) (new old payload : List ℕ) → length old ≡ length new → CutPoint k (length new) → take 8 new ≡ magic
-    → (Accident (cut k new old) old new payload → ⊥) → Header (cut k new old) old new
-cut_header k new old payload sizes point stands none =
-    header_of (cut k new old) old new payload none (old_or_magic k new old sizes point stands)
 
 -- The header lies in the first sector.
 sector_header : (reached : ℕ → Bool) (new old : List ℕ) → length old ≡ length new → Header (torn (Sectors reached) new old) old new
@@ -120,18 +120,26 @@ sector_header reached new old sizes =
 -- ---- either kind of cut
 
 module _ (new old : List ℕ) (sizes : length old ≡ length new) where
+  -- Each byte is the old or the new one.
+  pub torn_byte : (tear : Tear) (j : ℕ) → (get_or (torn tear new old) j 0 ≡ get_or old j 0) ⊎ (get_or (torn tear new old) j 0 ≡ get_or new j 0)
+  unfolding cut
+  torn_byte (Ascending k) j = cut_byte k j new old sizes
+  torn_byte (Sectors reached) j = sector_byte reached 0 j new old sizes
+
   pub torn_bytes : (tear : Tear) → AllBytes new → AllBytes old → AllBytes (torn tear new old)
-  torn_bytes (Ascending k) new_all old_all = cut_bytes k new old new_all old_all
-  torn_bytes (Sectors reached) new_all old_all = sector_bytes reached _ new old new_all old_all
+  torn_bytes tear new_all old_all j = go (torn_byte tear j)
+    where
+      go : (get_or (torn tear new old) j 0 ≡ get_or old j 0) ⊎ (get_or (torn tear new old) j 0 ≡ get_or new j 0) → get_or (torn tear new old) j 0 < 256
+      go (inl is) = let small = old_all j in omega arith
+      go (inr is) = let small = new_all j in omega arith
 
   pub length_torn : (tear : Tear) → Possible tear (length new) → length (torn tear new old) ≡ length new
   length_torn (Ascending k) possible = length_cut k new old sizes possible
   length_torn (Sectors reached) possible = length_sectors reached _ new old sizes
 
-  pub torn_header : (tear : Tear) (payload : List ℕ) → Possible tear (length new) → take 8 new ≡ magic
-      → (Accident (torn tear new old) old new payload → ⊥) → Header (torn tear new old) old new
-  torn_header (Ascending k) payload possible stands none = cut_header k new old payload sizes possible stands none
-  torn_header (Sectors reached) payload possible stands none = sector_header reached new old sizes
+  pub torn_header : (tear : Tear) → Possible tear (length new) → take 8 new ≡ magic → Header (torn tear new old) old new
+  torn_header (Ascending k) possible stands = header_of (cut k new old) old new (old_or_magic k new old sizes possible stands)
+  torn_header (Sectors reached) possible stands = sector_header reached new old sizes
 
 -- ---- the accidents
 

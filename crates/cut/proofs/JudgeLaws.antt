@@ -12,13 +12,15 @@ use Rattle.judge.specs.declared.verdict.PairVerdict.{PairVerdict}
 use Rattle.judge.proofs.PassLaws.{or-last}
 use Rattle.cut.specs.Store.{Every}
 
--- A pair is settled: its winner stands beside a slot that needs nothing.
-abbrev pub settled_verdict : SlotIndex → PairVerdict
-settled_verdict index = winner_beside index SlotVerdict.Nothing
+-- The verdict of a slot that is left as it is.
+pub data Quiet : SlotVerdict → Type 0 where
+  intact : Quiet SlotVerdict.Nothing
+  damaged : Quiet SlotVerdict.OlderDamaged
 
+-- Each pair is settled: its winner stands beside a slot that is left as it is.
 pub data Settled : List PairVerdict → Type 0 where
   none : Settled []
-  more : {vs : List PairVerdict} → (index : SlotIndex) → Settled vs → Settled (settled_verdict index ∷ vs)
+  more : {v : SlotVerdict} {vs : List PairVerdict} → (index : SlotIndex) → Quiet v → Settled vs → Settled (winner_beside index v ∷ vs)
 
 -- The verdict of a slot that a crash explains.
 pub data Explained : SlotVerdict → Type 0 where
@@ -41,29 +43,40 @@ explained_flight SlotIndex.B torn = refl
 
 -- ---- settled pairs
 
-settled_flight : (index : SlotIndex) → in_flight (settled_verdict index) ≡ false
-settled_flight SlotIndex.A = refl
-settled_flight SlotIndex.B = refl
+pub quiet_explained : {v : SlotVerdict} → Quiet v → Explained v
+quiet_explained intact = nothing
+quiet_explained damaged = older
+
+settled_standing : {v : SlotVerdict} → Quiet v → standing_beside v ≡ Standing.Confirmed
+settled_standing quiet = explained_standing (quiet_explained quiet)
+
+settled_flight : (index : SlotIndex) {v : SlotVerdict} → Quiet v → in_flight (winner_beside index v) ≡ false
+settled_flight SlotIndex.A intact = refl
+settled_flight SlotIndex.A damaged = refl
+settled_flight SlotIndex.B intact = refl
+settled_flight SlotIndex.B damaged = refl
+
+pub settled_none : (index : SlotIndex) {v : SlotVerdict} → Quiet v → (i : ℕ) → pair_heal i (winner_beside index v) ≡ None
+settled_none SlotIndex.A intact i = refl
+settled_none SlotIndex.A damaged i = refl
+settled_none SlotIndex.B intact i = refl
+settled_none SlotIndex.B damaged i = refl
 
 settled_candidates : {vs : List PairVerdict} → Settled vs → candidates vs ≡ 0
 settled_candidates none = refl
-settled_candidates (more {vs} index rest) = simp (settled_flight index, settled_candidates rest)
+settled_candidates (more index quiet rest) = simp (settled_flight index quiet, settled_candidates rest)
 
 settled_trouble : {vs : List PairVerdict} → Settled vs → any_trouble vs ≡ false
 settled_trouble none = refl
-settled_trouble (more index rest) = settled_trouble rest
+settled_trouble (more index quiet rest) = simp (settled_standing quiet) (settled_trouble rest)
 
 settled_refused : {vs : List PairVerdict} → Settled vs → any_refused vs ≡ false
 settled_refused none = refl
-settled_refused (more index rest) = settled_refused rest
-
-settled_none : (index : SlotIndex) (i : ℕ) → pair_heal i (settled_verdict index) ≡ None
-settled_none SlotIndex.A i = refl
-settled_none SlotIndex.B i = refl
+settled_refused (more index quiet rest) = simp (settled_standing quiet) (settled_refused rest)
 
 settled_heal : {vs : List PairVerdict} → Settled vs → (i : ℕ) → heal i vs ≡ None
 settled_heal none i = refl
-settled_heal (more index rest) i = simp (settled_heal rest (i + 1), settled_none index i)
+settled_heal (more index quiet rest) i = simp (settled_heal rest (i + 1), settled_none index quiet i)
 
 -- Nothing in flight, or no reason to demote: the verdict stays.
 demoted_none : (demote : Bool) (v : PairVerdict) → in_flight v ≡ false → demoted demote v ≡ v
@@ -79,41 +92,42 @@ last_kept (v ∷ vs) = ap₂ (λ (x : PairVerdict) (xs : List PairVerdict). x �
 
 settled_last : {vs : List PairVerdict} → Settled vs → (volume page : Bool) → last_verdicts volume page vs ≡ vs
 settled_last none volume page = refl
-settled_last (more index rest) volume page =
-    ap₂ (λ (x : PairVerdict) (xs : List PairVerdict). x ∷ xs) (demoted_none volume (settled_verdict index) (settled_flight index)) (settled_last rest page page)
+settled_last (more {v} index quiet rest) volume page =
+    ap₂ (λ (x : PairVerdict) (xs : List PairVerdict). x ∷ xs) (demoted_none volume (winner_beside index v) (settled_flight index quiet))
+    (settled_last rest page page)
 
 -- ---- one pair among settled ones
 
 module _ (v : PairVerdict) (behind : List PairVerdict) (settled_behind : Settled behind) where
   row_candidates : {before : List PairVerdict} → Settled before → candidates (before ++ v ∷ behind) ≡ cond (in_flight v) 1 0
   row_candidates none = rw (settled_candidates settled_behind)
-  row_candidates (more {vs} index rest) = simp (settled_flight index) (row_candidates rest)
+  row_candidates (more index quiet rest) = simp (settled_flight index quiet) (row_candidates rest)
 
   row_trouble : v.standing ≡ Standing.Confirmed → {before : List PairVerdict} → Settled before → any_trouble (before ++ v ∷ behind) ≡ false
   row_trouble confirmed none = simp (confirmed, settled_trouble settled_behind)
-  row_trouble confirmed (more index rest) = row_trouble confirmed rest
+  row_trouble confirmed (more index quiet rest) = simp (settled_standing quiet) (row_trouble confirmed rest)
 
   row_refused : v.standing ≡ Standing.Confirmed → {before : List PairVerdict} → Settled before → any_refused (before ++ v ∷ behind) ≡ false
   row_refused confirmed none = simp (confirmed, settled_refused settled_behind)
-  row_refused confirmed (more index rest) = row_refused confirmed rest
+  row_refused confirmed (more index quiet rest) = simp (settled_standing quiet) (row_refused confirmed rest)
 
   row_heal_at : {before : List PairVerdict} → Settled before → (i : ℕ) → heal i (before ++ v ∷ behind) ≡ pair_heal (i + length before) v
   row_heal_at none i = rw (settled_heal settled_behind (i + 1)) (ap (λ (k : ℕ). pair_heal k v) (omega arith))
-  row_heal_at (more index rest) i =
-      rw (settled_none index i) (or-last _ ∙ row_heal_at rest (i + 1) ∙ ap (λ (k : ℕ). pair_heal k v) (omega arith))
+  row_heal_at (more index quiet rest) i =
+      rw (settled_none index quiet i) (or-last _ ∙ row_heal_at rest (i + 1) ∙ ap (λ (k : ℕ). pair_heal k v) (omega arith))
 
   row_none_in_flight : in_flight v ≡ false → {before : List PairVerdict} → Settled before → (volume page : Bool)
       → last_verdicts volume page (before ++ v ∷ behind) ≡ before ++ v ∷ behind
   row_none_in_flight idle none volume page =
       ap₂ (λ (x : PairVerdict) (xs : List PairVerdict). x ∷ xs) (demoted_none volume v idle) (settled_last settled_behind page page)
-  row_none_in_flight idle (more index rest) volume page =
-      ap₂ (λ (x : PairVerdict) (xs : List PairVerdict). x ∷ xs) (demoted_none volume (settled_verdict index) (settled_flight index))
+  row_none_in_flight idle (more {v = u} index quiet rest) volume page =
+      ap₂ (λ (x : PairVerdict) (xs : List PairVerdict). x ∷ xs) (demoted_none volume (winner_beside index u) (settled_flight index quiet))
       (row_none_in_flight idle rest page page)
 
   row_volume : v.standing ≡ Standing.Confirmed → {before : List PairVerdict} → Settled before
       → (volume_verdict (before ++ v ∷ behind)).standing ≡ Standing.Confirmed
   row_volume confirmed none = confirmed
-  row_volume confirmed (more index rest) = refl
+  row_volume confirmed (more index quiet rest) = settled_standing quiet
 
   pub row_confirmed : v.standing ≡ Standing.Confirmed → {before : List PairVerdict} → Settled before
       → Every (λ (x : PairVerdict). x.standing ≡ Standing.Confirmed) (before ++ v ∷ behind)
@@ -121,8 +135,8 @@ module _ (v : PairVerdict) (behind : List PairVerdict) (settled_behind : Settled
     where
       settled_confirmed : {vs : List PairVerdict} → Settled vs → Every (λ (x : PairVerdict). x.standing ≡ Standing.Confirmed) vs
       settled_confirmed none = Every.none
-      settled_confirmed (more index rest) = Every.more refl (settled_confirmed rest)
-  row_confirmed confirmed (more index rest) = Every.more refl (row_confirmed confirmed rest)
+      settled_confirmed (more index quiet rest) = Every.more (settled_standing quiet) (settled_confirmed rest)
+  row_confirmed confirmed (more index quiet rest) = Every.more (settled_standing quiet) (row_confirmed confirmed rest)
 
 -- ---- the judgement
 
@@ -131,7 +145,7 @@ pub data Healed (at : ℕ) (index : SlotIndex) (v : SlotVerdict) : Option (ℕ �
   none : Healed at index v None
   slot : v ≡ SlotVerdict.InFlight → Healed at index v (Some (at, (other index)))
 
-healed : (at : ℕ) (index : SlotIndex) {v : SlotVerdict} → Explained v → Healed at index v (pair_heal at (winner_beside index v))
+pub healed : (at : ℕ) (index : SlotIndex) {v : SlotVerdict} → Explained v → Healed at index v (pair_heal at (winner_beside index v))
 healed at SlotIndex.A nothing = none
 healed at SlotIndex.A older = none
 healed at SlotIndex.A torn = slot refl
@@ -190,10 +204,9 @@ module _ {before behind : List PairVerdict} (settled_before : Settled before) (s
         row_volume (winner_beside index v) behind settled_behind confirmed settled_before,
       )
 
-  pub row_heal : Healed (length before) index v (judgement ps clean).heal
+  pub row_heal_is : (judgement ps clean).heal ≡ pair_heal (length before) (winner_beside index v)
   unfolding judgement
-  row_heal =
-      let at_pair : heal 0 vs ≡ pair_heal (length before) (winner_beside index v) =
-      row_heal_at (winner_beside index v) behind settled_behind settled_before 0
-      ∙ ap (λ (k : ℕ). pair_heal k (winner_beside index v)) (omega arith) in
-      rw (row_verdicts, at_pair) (healed (length before) index explained)
+  row_heal_is =
+      ap (heal 0) row_verdicts
+      ∙ row_heal_at (winner_beside index v) behind settled_behind settled_before 0
+      ∙ ap (λ (k : ℕ). pair_heal k (winner_beside index v)) (omega arith)

@@ -6,7 +6,10 @@ pub mod PairLaws
 pub mod NumberLaws
 pub mod SectorLaws
 pub mod CutLaws
+pub mod StateLaws
+pub mod NextLaws
 pub mod WriteLaws
-pub mod WrittenPair
+pub mod LeftLaws
+pub mod RowLaws
 pub mod Theorem
 pub mod StatementLaws

@@ -40,7 +40,7 @@ abbrev pub place_of : SlotIndex → ℕ → ℕ
 place_of index i = by_index index (2 * i) (2 * i + 1)
 
 module _ (before : List Pair) (p : Pair) (behind : List Pair) where
-  abbrev others : ℕ → ℕ
+  abbrev pub others : ℕ → ℕ
   others n = max (highest (slots (shown before))) (max n (highest (slots (shown behind))))
 
   highest_row : (index : SlotIndex) → number_at index p ≤ number_at (other index) p
@@ -55,7 +55,7 @@ module _ (before : List Pair) (p : Pair) (behind : List Pair) where
       go SlotIndex.A below = omega arith
       go SlotIndex.B below = omega arith
 
-  others_row : (index : SlotIndex)
+  pub others_row : (index : SlotIndex)
       → highest_other (place_of index (length before)) (slots (shown (before ++ p ∷ behind))) ≡ others (number_at (other index) p)
   others_row SlotIndex.A =
       let all =
@@ -67,6 +67,13 @@ module _ (before : List Pair) (p : Pair) (behind : List Pair) where
       others_behind (slots (shown before)) (shown_slot p.a ∷ shown_slot p.b ∷ slots (shown behind)) 1 (2 * length before + 1)
       (omega (arith, length_slots before)) in
       ap (highest_other (2 * length before + 1)) (slots_row before p behind) ∙ omega arith
+
+-- No number of a pair is above the highest.
+pub in_highest : (before : List Pair) (p : Pair) (behind : List Pair) (index : SlotIndex)
+    → number_at index p ≤ highest (slots (shown (before ++ p ∷ behind)))
+in_highest [] p behind SlotIndex.A = omega arith
+in_highest [] p behind SlotIndex.B = omega arith
+in_highest (q ∷ before) p behind index = let rest = in_highest before p behind index in omega arith
 
 -- p before the write and q after it have the same number in the slot that was not written.
 pub write_qualifies : (before : List Pair) (p q : Pair) (behind : List Pair) (index : SlotIndex)

@@ -22,7 +22,6 @@ use Rattle.judge.specs.declared.pairs.PairCase.{PairCase}
 use Rattle.judge.specs.declared.verdict.SlotVerdict.{SlotVerdict}
 use Rattle.cut.specs.Store.{Slot, Pair, accepts, slot_at, status, report, slot_read, last_record, Beside, SoundPair}
 use Rattle.cut.specs.Cut.{PayloadIs}
-use Rattle.cut.proofs.JudgeLaws.{Explained}
 
 -- What the judge is told of a slot and of a pair.
 abbrev pub shown_slot : Slot → Shown
@@ -97,66 +96,77 @@ blank_number p index is = simp is
 pub valid_number : (p : Pair) (index : SlotIndex) (i : SlotInfo) → status (slot_at index p) ≡ SlotStatus.Valid i → number_at index p ≡ i.meta_seq
 valid_number p index i is = simp is
 
+-- A slot of a failed payload counts for the number in its header,
+pub torn_number : (p : Pair) (index : SlotIndex) (crc : ℕ) (n : NumberedHeader) → status (slot_at index p) ≡ SlotStatus.BadPayloadCrc
+    → header_facts (slot_at index p).bytes (slot_at index p).expect ≡ Some (record { stored_header_crc32c = crc; numbered = Some n })
+    → number_at index p ≡ n.meta_seq
+torn_number p index crc n is known = simp (is, known)
+
+-- and one of a failed header for none.
+pub bad_number : (p : Pair) (index : SlotIndex) (crc : ℕ) → status (slot_at index p) ≡ SlotStatus.BadHeaderCrc
+    → header_facts (slot_at index p).bytes (slot_at index p).expect ≡ Some (record { stored_header_crc32c = crc; numbered = None })
+    → number_at index p ≡ 0
+bad_number p index crc is known = simp (is, known)
+
 -- ---- a pair whose winner stands
 
--- The winner w beside a slot of verdict v, where `qualifies` says which numbers qualify; the record that is read back.
-pub record Stands (p : Pair) (qualifies : SlotIndex → Option ℕ → Bool) (w : SlotIndex) (v : SlotVerdict) (r : List ℕ) : Type 0 where
+-- A header that fails its checksum stores the one that the winner of info i records as its predecessor's.
+abbrev pub predecessor : SlotInfo → ℕ → Bool
+predecessor i crc = nat_le 2 i.generation && (crc == i.prev_header_crc32c)
+
+-- The winner w of info i beside a slot of verdict v, where `qualifies` says which numbers qualify; the record that is read back.
+pub record Stands (p : Pair) (qualifies : SlotIndex → Option ℕ → Bool) (w : SlotIndex) (i : SlotInfo) (v : SlotVerdict) (r : List ℕ) : Type 0 where
   pub verdict : pair_verdict qualifies (pair_case (shown_pair p)) ≡ winner_beside w v
-  pub info : SlotInfo
-  pub won : winner_info (report p) ≡ Some (w, info)
+  pub won : winner_info (report p) ≡ Some (w, i)
   pub part : PayloadIs p r
   pub accepted : accepts p.decoder r ≡ true
 
 module _ (p : Pair) (w : SlotIndex) (i : SlotInfo) (valid_is : status (slot_at w p) ≡ SlotStatus.Valid i)
     (qualifies : SlotIndex → Option ℕ → Bool) (takes : accepts p.decoder (payload i (slot_at w p).bytes) ≡ true) where
   abbrev lead : SlotVerdict → Type 0
-  lead v = Stands p qualifies w v (payload i (slot_at w p).bytes)
+  lead v = Stands p qualifies w i v (payload i (slot_at w p).bytes)
 
   stands : {v : SlotVerdict} → pair_verdict qualifies (pair_case (shown_pair p)) ≡ winner_beside w v → winner_info (report p) ≡ Some (w, i) → lead v
-  stands verdict won = record { verdict = verdict; info = i; won = won; part = won_payload p w i won; accepted = takes }
+  stands verdict won = record { verdict = verdict; won = won; part = won_payload p w i won; accepted = takes }
 
   -- Two Valid slots.
   pub beside_valid : (j : SlotInfo) → status (slot_at (other w) p) ≡ SlotStatus.Valid j → j.generation < i.generation
-      → Stands p qualifies w SlotVerdict.Nothing (payload i (slot_at w p).bytes)
+      → Stands p qualifies w i SlotVerdict.Nothing (payload i (slot_at w p).bytes)
   beside_valid j second older =
       stands (ap (pair_verdict qualifies) (case_two p w i j valid_is second older)) (won_two p w i j valid_is second older)
 
   -- A Blank B beside an A of generation 1.
   pub beside_blank : w ≡ SlotIndex.A → i.generation ≡ 1 → status (slot_at (other w) p) ≡ SlotStatus.Blank
-      → Stands p qualifies w SlotVerdict.Nothing (payload i (slot_at w p).bytes)
+      → Stands p qualifies w i SlotVerdict.Nothing (payload i (slot_at w p).bytes)
   beside_blank is_a first second =
       let nothing : opposite w (version_of_info i) Shown.Blank ≡ Opposite.Nothing = rw is_a (simp first) in
       stands
       (ap (pair_verdict qualifies) (case_beside p w i Shown.Blank valid_is (simp second) refl refl ∙ ap (PairCase.Won w) nothing))
       (won_alone p w i SlotStatus.Blank valid_is second refl refl refl)
 
-  -- A header that fails its checksum: the winner's predecessor, if its stored checksum is the winner's previous one.
-  pub beside_bad : (crc : ℕ) → status (slot_at (other w) p) ≡ SlotStatus.BadHeaderCrc
-      → header_facts (slot_at (other w) p).bytes (slot_at (other w) p).expect ≡ Some (record { stored_header_crc32c = crc; numbered = None })
-      → (qualifies (other w) None ≡ true)
-      → (v : SlotVerdict) × Explained v × Stands p qualifies w v (payload i (slot_at w p).bytes)
-  beside_bad crc second known unread = go (nat_le 2 i.generation && (crc == i.prev_header_crc32c)) refl
-    where
-      won : winner_info (report p) ≡ Some (w, i)
-      won = won_alone p w i SlotStatus.BadHeaderCrc valid_is second refl refl refl
+  -- A header that fails its checksum.
+  module _ (crc : ℕ) (second : status (slot_at (other w) p) ≡ SlotStatus.BadHeaderCrc)
+      (known : header_facts (slot_at (other w) p).bytes (slot_at (other w) p).expect ≡ Some (record { stored_header_crc32c = crc; numbered = None })) where
+    bad_case : (test : Bool) → predecessor i crc ≡ test
+        → pair_case (shown_pair p) ≡ PairCase.Won w (cond test Opposite.OlderDamaged (Opposite.Candidate None))
+    bad_case test is =
+        case_beside p w i (Shown.BadHeader crc) valid_is (simp (second, known)) refl refl
+        ∙ ap (λ (b : Bool). PairCase.Won w (cond b Opposite.OlderDamaged (Opposite.Candidate None))) is
 
-      by_test : (test : Bool) → (nat_le 2 i.generation && (crc == i.prev_header_crc32c)) ≡ test
-          → pair_case (shown_pair p) ≡ PairCase.Won w (cond test Opposite.OlderDamaged (Opposite.Candidate None))
-      by_test test is =
-          case_beside p w i (Shown.BadHeader crc) valid_is (simp (second, known)) refl refl
-          ∙ ap (λ (b : Bool). PairCase.Won w (cond b Opposite.OlderDamaged (Opposite.Candidate None))) is
+    bad_won : winner_info (report p) ≡ Some (w, i)
+    bad_won = won_alone p w i SlotStatus.BadHeaderCrc valid_is second refl refl refl
 
-      go : (test : Bool) → (nat_le 2 i.generation && (crc == i.prev_header_crc32c)) ≡ test
-          → (v : SlotVerdict) × Explained v × Stands p qualifies w v (payload i (slot_at w p).bytes)
-      go true is = (SlotVerdict.OlderDamaged, Explained.older, stands (ap (pair_verdict qualifies) (by_test true is)) won)
-      go false is = (
-        SlotVerdict.InFlight,
-        Explained.torn,
+    -- The winner's predecessor,
+    pub beside_predecessor : predecessor i crc ≡ true → Stands p qualifies w i SlotVerdict.OlderDamaged (payload i (slot_at w p).bytes)
+    beside_predecessor is = stands (ap (pair_verdict qualifies) (bad_case true is)) bad_won
+
+    -- or a write whose number is not known.
+    pub beside_unread : predecessor i crc ≡ false → qualifies (other w) None ≡ true
+        → Stands p qualifies w i SlotVerdict.InFlight (payload i (slot_at w p).bytes)
+    beside_unread is unread =
         stands
-            (ap (pair_verdict qualifies) (by_test false is)
-            ∙ ap (λ (b : Bool). winner_beside w (cond b SlotVerdict.InFlight SlotVerdict.Damage)) unread)
-            won,
-      )
+        (ap (pair_verdict qualifies) (bad_case false is) ∙ ap (λ (b : Bool). winner_beside w (cond b SlotVerdict.InFlight SlotVerdict.Damage)) unread)
+        bad_won
 
   -- A header that passes every check, over a payload that fails its checksum.
   module _ (crc : ℕ) (n : NumberedHeader) (second : status (slot_at (other w) p) ≡ SlotStatus.BadPayloadCrc)
@@ -170,7 +180,7 @@ module _ (p : Pair) (w : SlotIndex) (i : SlotInfo) (valid_is : status (slot_at w
 
     -- The write itself.
     pub beside_new : n.generation ≡ i.generation + 1 → n.prev_header_crc32c ≡ i.header_crc32c
-        → qualifies (other w) (Some n.meta_seq) ≡ true → Stands p qualifies w SlotVerdict.InFlight (payload i (slot_at w p).bytes)
+        → qualifies (other w) (Some n.meta_seq) ≡ true → Stands p qualifies w i SlotVerdict.InFlight (payload i (slot_at w p).bytes)
     beside_new next linked qualified =
         let not_older : i.generation ≤ n.generation = omega arith in
         stands
@@ -178,44 +188,14 @@ module _ (p : Pair) (w : SlotIndex) (i : SlotInfo) (valid_is : status (slot_at w
         torn_won
 
     -- The older version.
-    pub beside_old : n.generation < i.generation → Stands p qualifies w SlotVerdict.OlderDamaged (payload i (slot_at w p).bytes)
+    pub beside_old : n.generation < i.generation → Stands p qualifies w i SlotVerdict.OlderDamaged (payload i (slot_at w p).bytes)
     beside_old older = stands (ap (pair_verdict qualifies) torn_case ∙ simp (lt-ltb _ _ older)) torn_won
 
 -- ---- a sound pair
 
-module _ (p : Pair) (sound : SoundPair p) where
-  abbrev w : SlotIndex
-  w = sound.newer
-
-  pub last_is : last_record p ≡ payload sound.info (slot_at sound.newer p).bytes
-  last_is = go sound.beside
-    where
-      go : Beside p w sound.info → last_record p ≡ payload sound.info (slot_at w p).bytes
-      go (Beside.first is_a first second) = last_alone p w sound.info sound.valid second
-      go (Beside.both j second next higher linked takes) = last_two p w sound.info j sound.valid second (omega arith)
-
-  pub sound_won : winner_info (report p) ≡ Some (sound.newer, sound.info)
-  sound_won = go sound.beside
-    where
-      go : Beside p w sound.info → winner_info (report p) ≡ Some (w, sound.info)
-      go (Beside.first is_a first second) = won_alone p w sound.info SlotStatus.Blank sound.valid second refl refl refl
-      go (Beside.both j second next higher linked takes) = won_two p w sound.info j sound.valid second (omega arith)
-
-  pub sound_stands : (qualifies : SlotIndex → Option ℕ → Bool) → Stands p qualifies sound.newer SlotVerdict.Nothing (last_record p)
-  sound_stands qualifies = rw last_is (go sound.beside)
-    where
-      go : Beside p w sound.info → Stands p qualifies w SlotVerdict.Nothing (payload sound.info (slot_at w p).bytes)
-      go (Beside.first is_a first second) = beside_blank p w sound.info sound.valid qualifies sound.accepted is_a first second
-      go (Beside.both j second next higher linked takes) =
-          beside_valid p w sound.info sound.valid qualifies sound.accepted j second (omega arith)
-
-  -- The slot beside the winner counts for no higher number.
-  pub sound_number : number_at (other sound.newer) p ≤ number_at sound.newer p
-  sound_number = go sound.beside
-    where
-      go : Beside p w sound.info → number_at (other w) p ≤ number_at w p
-      go (Beside.first is_a first second) = let none = blank_number p (other w) second in omega arith
-      go (Beside.both j second next higher linked takes) =
-          let newer = valid_number p w sound.info sound.valid in
-          let older = valid_number p (other w) j second in
-          omega arith
+pub last_is : (p : Pair) (sound : SoundPair p) → last_record p ≡ payload sound.info (slot_at sound.newer p).bytes
+last_is p sound = go sound.beside
+  where
+    go : Beside p sound.newer sound.info → last_record p ≡ payload sound.info (slot_at sound.newer p).bytes
+    go (Beside.first is_a first second) = last_alone p sound.newer sound.info sound.valid second
+    go (Beside.both j second next higher linked takes) = last_two p sound.newer sound.info j sound.valid second (omega arith)

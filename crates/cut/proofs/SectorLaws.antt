@@ -1,14 +1,9 @@
 -- A slot that was cut by sectors: its bytes and its length, and each of its sectors, which is the new one or the old one.
-use Rattle.std.proofs.Common.{◌≡◌, refl, ap, ap₂, ◌∙◌, Bool, true, false, cond, List, [], ◌∷◌, ℕ, zero, suc, ◌+◌, ◌*◌, ◌/◌, ◌≤◌, ◌<◌, arith, lit<, length, take, drop, length-drop}
-use Rattle.codec.specs.Bytes.{AllBytes}
+use Rattle.std.proofs.Common.{◌≡◌, refl, ap, ap₂, ◌∙◌, ◌⊎◌, inl, inr, Bool, true, false, cond, List, [], ◌∷◌, ℕ, zero, suc, ◌+◌, ◌*◌, ◌/◌, ◌≤◌, arith, length, take, drop, get_or, length-drop}
 use Rattle.cut.specs.Cut.{sector_size, by_sector}
 use Rattle.cut.specs.Laws.{EachSector}
 
 -- ---- one choice for all
-
-either_byte : (test : Bool) {x y : ℕ} → x < 256 → y < 256 → cond test x y < 256
-either_byte true first second = first
-either_byte false first second = second
 
 no_byte : (test : Bool) → ◌≡◌ {A = List ℕ} [] (cond test [] [])
 no_byte true = refl
@@ -21,13 +16,18 @@ byte_and_rest false x y new old = refl
 -- ---- the bytes
 
 module _ (reached : ℕ → Bool) where
-  pub sector_bytes : (i : ℕ) (new old : List ℕ) → AllBytes new → AllBytes old → AllBytes (by_sector reached i new old)
+  -- Each byte is the old or the new one.
+  pub sector_byte : (i j : ℕ) (new old : List ℕ) → length old ≡ length new
+      → (get_or (by_sector reached i new old) j 0 ≡ get_or old j 0) ⊎ (get_or (by_sector reached i new old) j 0 ≡ get_or new j 0)
   unfolding by_sector
-  sector_bytes i [] old new_all old_all k = lit< tt
-  sector_bytes i (x ∷ new) [] new_all old_all k = lit< tt
-  sector_bytes i (x ∷ new) (y ∷ old) new_all old_all zero = either_byte (reached (i / sector_size)) (new_all 0) (old_all 0)
-  sector_bytes i (x ∷ new) (y ∷ old) new_all old_all (suc k) =
-      sector_bytes (i + 1) new old (λ n. new_all (suc n)) (λ n. old_all (suc n)) k
+  sector_byte i j [] old sizes = inr refl
+  sector_byte i j (x ∷ new) [] sizes = absurd (omega arith)
+  sector_byte i zero (x ∷ new) (y ∷ old) sizes = go (reached (i / sector_size))
+    where
+      go : (test : Bool) → (cond test x y ≡ y) ⊎ (cond test x y ≡ x)
+      go true = inr refl
+      go false = inl refl
+  sector_byte i (suc j) (x ∷ new) (y ∷ old) sizes = sector_byte (i + 1) j new old (omega arith)
 
   pub length_sectors : (i : ℕ) (new old : List ℕ) → length old ≡ length new → length (by_sector reached i new old) ≡ length new
   unfolding by_sector

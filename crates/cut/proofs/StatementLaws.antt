@@ -24,11 +24,11 @@ use Rattle.meta.specs.declared.meta.MetaError.{MetaError}
 use Rattle.meta.specs.declared.meta2.VolumeMeta2.{VolumeMeta2}
 use Rattle.meta.proofs.VolumeLaws.{volume_decoded}
 use Rattle.cut.specs.Store.{mark_by, clean_mark, Slot, Pair, slot_at, status, report, frames, SoundPair}
-use Rattle.cut.specs.Cut.{Tear, Ascending, Write, size, old, new, cut, torn, left, CutPoint, CorrectWrite, Accident, payload_by, SectorAccident, is_empty, handed, PayloadIs}
+use Rattle.cut.specs.Cut.{Tear, Ascending, Write, store, size, old, new, cut, torn, left, next_number, CutPoint, CorrectWrite, Accident, payload_by, SectorAccident, is_empty, handed, PayloadIs}
 use Rattle.cut.specs.Laws.{UnmarkedRecord, UnmarkedStore, PageHanded, TornHanded, WholeHanded, OldHeaderKept, NoneInOrder, zeros, PairFrame, OnePayload, HasSlots}
 use Rattle.cut.proofs.PairLaws.{last_is}
 use Rattle.cut.proofs.CutLaws.{kept_by_header}
-use Rattle.cut.proofs.WriteLaws.{old_size, new_size, header_differs}
+use Rattle.cut.proofs.WriteLaws.{BesideWinner, sound_beside, sound_resting, old_size, new_size, header_differs}
 
 -- ---- the store's mark
 
@@ -68,14 +68,17 @@ whole_handed w before stands = rw (before, stands) refl
 -- ---- the cut in ascending order
 
 module _ (w : Write) (k : ℕ) (sound : SoundPair w.pair) (correct : CorrectWrite w) (in_order : w.tear ≡ Ascending k) (point : CutPoint k (size w)) where
+  abbrev made : BesideWinner (next_number (store w) w.pair) w
+  made = sound_beside w sound correct
+
   left_is : left w ≡ cut k (new w) (old w)
   left_is = ap (λ (tear : Tear). torn tear (new w) (old w)) in_order
 
   kept : take 128 (left w) ≡ take 128 (old w) → left w ≡ old w
   kept is =
       left_is
-      ∙ kept_by_header k (new w) (old w) (old_size w sound correct ∙ sym (new_size w sound correct)) (rw (new_size w sound correct) point)
-      (λ same. header_differs w sound correct (sym same)) (ap (take 128) (sym left_is) ∙ is)
+      ∙ kept_by_header k (new w) (old w) (old_size w made ∙ sym (new_size w made)) (rw (new_size w made) point)
+      (λ same. header_differs w made (sound_resting w sound correct) (sym same)) (ap (take 128) (sym left_is) ∙ is)
 
   none_other : SectorAccident (left w) (old w) (new w) w.payload → Accident (left w) (old w) (new w) w.payload
   none_other (SectorAccident.either accident) = accident

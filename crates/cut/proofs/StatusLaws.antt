@@ -28,10 +28,11 @@ neither false b is = (refl, is)
 -- What is known of a header that passed.
 pub record Passed (s : List ℕ) (e : Expect) : Type 0 where
   pub magic_is : take 8 s ≡ magic
+  pub sum_is : header_passes s ≡ true
   pub length_is : e.format_major ≡ 2 → le16 s 12 ≡ 128
 
 pub passed_is : (s : List ℕ) (e : Expect) → check s (header s) e ≡ Ok tt → Passed s e
-unfolding check is_malformed
+unfolding check passes_checksum header_passes is_malformed
 passed_is s e is =
     let h : Header = header s in
     let magic_stands = passed (not (pointwise nat_eq h.magic magic)) SlotStatus.BadMagic _ is in
@@ -43,6 +44,7 @@ passed_is s e is =
     let format_is : h.format_major ≡ e.format_major = eqb-true _ _ (not-false _ (neither _ _ format.0).0) in
     record {
       magic_is = (bytes_decides h.magic magic).0 (not-false _ magic_stands.0);
+      sum_is = not-false _ sum.0;
       length_is = λ two. eqb-true _ _ (not-false _ (simp (eq-eqb h.format_major 2 (format_is ∙ two)) at length_test));
     }
 

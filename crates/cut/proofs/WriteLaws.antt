@@ -1,46 +1,36 @@
--- A correct write to a sound pair: `encode` refuses nothing, its fields fit and ask for what the slot is read with; the winner, the
--- record before the write, and the slot that is written over.
-use Rattle.std.proofs.Common.{◌≡◌, refl, sym, ap, ap₂, subst, ◌∙◌, Bool, true, false, ◌==◌, List, ◌++◌, ℕ, ◌-◌, ◌^◌, ◌≤◌, ◌<◌, arith, eq-eqb, ne_eqb, le-leb, le-ltb, length, take, drop, replicate, length-append, pow_mono, take-append-drop, take_at, drop_at, Result, Ok}
+-- A correct write to the slot beside a winner that stands: `encode` refuses nothing, its fields fit and ask for what the slot is read
+-- with, and what is written has their header and the payload.
+use Rattle.std.proofs.Common.{◌≡◌, refl, sym, ap, subst, ◌∙◌, Bool, true, false, ◌==◌, List, ◌++◌, ℕ, ◌-◌, ◌^◌, ◌≤◌, ◌<◌, arith, eq-eqb, ne_eqb, le-leb, le-ltb, length, take, drop, replicate, length-append, pow_mono, take_at, drop_at, Result, Ok}
 use Rattle.std.proofs.Math.ListN.{length-replicate}
 use Rattle.std.specs.List.{list_all}
 use Rattle.codec.specs.Bytes.{AllBytes}
-use Rattle.codec.specs.Crc32c.{crc32c}
 use Rattle.slot.specs.Status.{other}
 use Rattle.slot.specs.Payload.{payload as payload_of}
 use Rattle.slot.specs.Header.{magic, header}
 use Rattle.slot.specs.Read.{is_slot_length}
 use Rattle.slot.specs.Write.{header_bytes, header_crc, written_header, slot_bytes, encode_check, encoded as encode_by, encode}
-use Rattle.slot.specs.Laws.{Fits, expect_of, stored_header}
+use Rattle.slot.specs.Laws.{Fits, expect_of}
 use Rattle.slot.specs.declared.header.Header.{Header}
 use Rattle.slot.specs.declared.slot.SlotIndex.{SlotIndex}
 use Rattle.slot.specs.declared.slot.SlotInfo.{SlotInfo}
-use Rattle.slot.specs.declared.slot.SlotStatus.{SlotStatus}
 use Rattle.slot.specs.declared.slot.SlotFields.{SlotFields}
 use Rattle.slot.specs.declared.slot.Expect.{Expect}
 use Rattle.slot.specs.declared.slot.EncodeError.{EncodeError}
 use Rattle.slot.proofs.Room.{slot_length}
 use Rattle.slot.proofs.WrittenLaws.{length_header}
-use Rattle.slot.proofs.RoundTripLaws.{Proper, header-is}
-use Rattle.cut.specs.Store.{Pair, accepts, slot_at, status, last_record, SoundSlot, Beside, SoundPair}
-use Rattle.cut.specs.Cut.{Write, size, expect, old, new, CorrectWrite}
+use Rattle.slot.proofs.RoundTripLaws.{Proper}
+use Rattle.cut.specs.Store.{Slot, Pair, slot_at, last_record, SoundSlot, SoundPair}
+use Rattle.cut.specs.Cut.{Write, store, size, expect, old, new, next_number, CorrectWith, CorrectWrite}
 use Rattle.cut.specs.Laws.{Encoded}
 use Rattle.cut.proofs.ByteLaws.{slot_all_bytes, le32_lt}
-use Rattle.cut.proofs.StatusLaws.{false_true, blank_is, valid_is}
-use Rattle.cut.proofs.PairLaws.{last_is, sound_won}
+use Rattle.cut.proofs.StatusLaws.{false_true, passed_is, valid_is}
+use Rattle.cut.proofs.PairLaws.{last_is}
+use Rattle.cut.proofs.StateLaws.{Short, beside, Leads, Fitting, Resting, under_header, under_check, sound_leads, sound_rests, sound_won}
+use Rattle.cut.proofs.NextLaws.{length_short, back_slot}
 
 pub other_other : (index : SlotIndex) → other (other index) ≡ index
 other_other SlotIndex.A = refl
 other_other SlotIndex.B = refl
-
--- The slot that is written over, beside a winner of info i.
-pub data Older (p : Pair) (index : SlotIndex) (i : SlotInfo) : Type 0 where
-  blank : other index ≡ SlotIndex.A → i.generation ≡ 1 → status (slot_at index p) ≡ SlotStatus.Blank → Older p index i
-  valid : (j : SlotInfo) → status (slot_at index p) ≡ SlotStatus.Valid j → j.generation < i.generation → Older p index i
-
-older_slot : (p : Pair) (index : SlotIndex) (i : SlotInfo) → Beside p (other index) i → Older p index i
-older_slot p index i (Beside.first is_a first second) = Older.blank is_a first (ap (λ (v : SlotIndex). status (slot_at v p)) (sym (other_other index)) ∙ second)
-older_slot p index i (Beside.both j second next higher linked takes) =
-    Older.valid j (ap (λ (v : SlotIndex). status (slot_at v p)) (sym (other_other index)) ∙ second) (omega arith)
 
 expect_same : {v v' : List ℕ} {o o' s s' l l' f f' : ℕ} {x x' : SlotIndex} {n n' : Bool}
     → v ≡ v' → o ≡ o' → s ≡ s' → x ≡ x' → l ≡ l' → f ≡ f' → n ≡ n'
@@ -49,9 +39,18 @@ expect_same : {v v' : List ℕ} {o o' s s' l l' f f' : ℕ} {x x' : SlotIndex} {
     (record { volume_uuid = v'; object_id = o'; slot_offset = s'; slot_index = x'; log2_slot_size = l'; format_major = f'; numbered = n' })
 expect_same volume object offset index log2 format numbered = cc
 
-module _ (w : Write) (sound : SoundPair w.pair) (correct : CorrectWrite w) where
+-- A correct write with the number n, and the winner that it is made beside.
+pub record BesideWinner (n : ℕ) (w : Write) : Type 0 where
+  pub correct : CorrectWith n w
+  pub leads : Leads w.pair (other w.index) correct.winner
+  pub some : 1 ≤ n
+
+module _ {n : ℕ} (w : Write) (made : BesideWinner n w) where
   abbrev f : SlotFields
   f = w.fields
+
+  abbrev correct : CorrectWith n w
+  correct = made.correct
 
   abbrev i : SlotInfo
   i = correct.winner
@@ -59,42 +58,13 @@ module _ (w : Write) (sound : SoundPair w.pair) (correct : CorrectWrite w) where
   abbrev p : Pair
   p = w.pair
 
-  -- ---- the winner is the pair's newer slot
-
-  both_won : ◌≡◌ {A = SlotIndex × SlotInfo} (sound.newer, sound.info) (other w.index, i)
-  both_won = let both = sym (sound_won p sound) ∙ correct.won in cc
-
-  pub newer_is : sound.newer ≡ other w.index
-  newer_is = ap (λ (won : SlotIndex × SlotInfo). won.0) both_won
-
-  info_is : sound.info ≡ i
-  info_is = ap (λ (won : SlotIndex × SlotInfo). won.1) both_won
-
-  pub winner_valid : status (slot_at (other w.index) w.pair) ≡ SlotStatus.Valid correct.winner
-  winner_valid = ap (λ (v : SlotIndex). status (slot_at v p)) (sym newer_is) ∙ sound.valid ∙ ap SlotStatus.Valid info_is
-
-  newer_record : payload_of sound.info (slot_at sound.newer p).bytes ≡ payload_of i (slot_at (other w.index) p).bytes
-  newer_record = ap₂ (λ (j : SlotInfo) (v : SlotIndex). payload_of j (slot_at v p).bytes) info_is newer_is
-
-  pub winner_accepted : accepts w.pair.decoder (payload_of correct.winner (slot_at (other w.index) w.pair).bytes) ≡ true
-  winner_accepted = ap (accepts p.decoder) (sym newer_record) ∙ sound.accepted
-
-  pub last_before : last_record w.pair ≡ payload_of correct.winner (slot_at (other w.index) w.pair).bytes
-  last_before = last_is p sound ∙ newer_record
-
-  pub written_over : Older w.pair w.index correct.winner
-  written_over =
-      older_slot p w.index i
-      (subst (λ (j : SlotInfo). Beside p (other w.index) j) info_is (subst (λ (v : SlotIndex). Beside p v sound.info) newer_is sound.beside))
-
   -- ---- the size
 
-  pub old_length : is_slot_length (length (old w)) (expect w).log2_slot_size ≡ true
-  old_length = go written_over
-    where
-      go : Older p w.index i → is_slot_length (length (old w)) (expect w).log2_slot_size ≡ true
-      go (Older.blank is_a first is) = (blank_is (old w) (expect w) is).length_ok
-      go (Older.valid j is older) = (valid_is (old w) (expect w) j is).length_ok
+  pub old_is : beside (other w.index) w.pair ≡ old w
+  old_is = ap (λ (s : Slot). s.bytes) (back_slot p w.index)
+
+  old_length : is_slot_length (length (old w)) (expect w).log2_slot_size ≡ true
+  old_length = ap (λ (s : Slot). is_slot_length (length s.bytes) s.expect.log2_slot_size) (sym (back_slot p w.index)) ∙ made.leads.length_ok
 
   log2_known : (9 ≤ (expect w).log2_slot_size) × ((expect w).log2_slot_size ≤ 16) × (length (old w) ≡ 2 ^ (expect w).log2_slot_size)
   log2_known = slot_length (length (old w)) (expect w).log2_slot_size old_length
@@ -117,14 +87,14 @@ module _ (w : Write) (sound : SoundPair w.pair) (correct : CorrectWrite w) where
   -- ---- the fields
 
   slot_sound : SoundSlot (slot_at w.index p)
-  slot_sound = sound.slots w.index
+  slot_sound = made.leads.slots w.index
 
   -- The winner's checksum is a number of its width.
   own_fits : i.header_crc32c < 2 ^ 32
   own_fits =
       let winner_slot = slot_at (other w.index) p in
-      rw (valid_is winner_slot.bytes winner_slot.expect i winner_valid).info_is
-      (le32_lt winner_slot.bytes (sound.slots (other w.index)).typed.bytes 8)
+      rw (valid_is winner_slot.bytes winner_slot.expect i made.leads.valid).info_is
+      (le32_lt winner_slot.bytes (made.leads.slots (other w.index)).typed.bytes 8)
 
   pub fields_fit : Fits w.fields
   fields_fit =
@@ -146,7 +116,7 @@ module _ (w : Write) (sound : SoundPair w.pair) (correct : CorrectWrite w) where
 
   pub fields_proper : Proper w.fields true
   fields_proper =
-      let some_number : 1 ≤ f.meta_seq = omega (arith, correct.number) in
+      let some_number : 1 ≤ f.meta_seq = omega (arith, correct.number, made.some) in
       record {
         fits = fields_fit;
         generation = ne_eqb _ _ some_generation;
@@ -214,31 +184,71 @@ module _ (w : Write) (sound : SoundPair w.pair) (correct : CorrectWrite w) where
   unfolding written_header header_bytes
   new_magic = ap (take 8) new_parts
 
-  -- ---- a slot with the new header
+  -- ---- what it does to its slot
 
-  module _ (s : List ℕ) (same_header : take 128 s ≡ take 128 (new w)) where
-    pub after_header : written_header w.fields w.payload ++ drop 128 s ≡ s
-    after_header = ap (λ (l : List ℕ). l ++ drop 128 s) (sym (same_header ∙ new_header)) ∙ take-append-drop 128 s
+  pub fitting : Fitting w.pair (other w.index) correct.winner w.fields w.payload n
+  fitting =
+      record {
+        proper = fields_proper;
+        asked_is = expect_is ∙ ap (λ (s : Slot). s.expect) (sym (back_slot p w.index));
+        small = payload_small;
+        fits = let sizes = ap length old_is ∙ old_size in omega (arith, sizes, correct.fits);
+        generation = correct.generation;
+        prev = correct.prev;
+        number = correct.number;
+        accepted = correct.accepted;
+      }
 
-    pub header_new : header s ≡ stored_header (header_crc w.fields w.payload) w.fields (length w.payload) (crc32c w.payload)
-    header_new = ap header (sym after_header) ∙ header-is fields_proper w.payload (drop 128 s) payload_small
+  pub new_beside : length (new w) ≡ length (beside (other w.index) w.pair)
+  new_beside = new_size ∙ sym old_size ∙ ap length (sym old_is)
 
-  -- The old slot is none: it is Blank, or of a lower generation.
+  pub new_short : Short (new w)
+  new_short =
+      length_short (new w)
+      ((passed_is (new w) _ (under_check p (other w.index) i made.leads fitting (new w) new_beside new_header)).length_is
+      (made.leads.slots (other (other w.index))).format)
+
   not_blank : list_all (λ b. b == 0) (written_header f w.payload) ≡ false
   unfolding written_header header_bytes
   not_blank = refl
 
-  pub header_differs : take 128 (old w) ≡ take 128 (new w) → ⊥
-  header_differs same_header = go written_over
+  -- The header of a slot that rests is not the new one.
+  pub header_differs : Resting w.pair (other w.index) correct.winner → take 128 (old w) ≡ take 128 (new w) → ⊥
+  header_differs resting same_header = go resting
     where
-      go : Older p w.index i → ⊥
-      go (Older.blank is_a first is) =
-          false_true {A = ⊥} not_blank
-          (ap (list_all (λ b. b == 0)) (sym (same_header ∙ new_header)) ∙ (blank_is (old w) (expect w) is).zeros)
-      go (Older.valid j is older) =
-          let known : j.generation ≡ (header (old w)).generation = ap (λ (k : SlotInfo). k.generation) (valid_is (old w) (expect w) j is).info_is in
-          let written : (header (old w)).generation ≡ f.generation = ap (λ (h : Header). h.generation) (header_new (old w) same_header) in
-          omega (arith, known, written, older, correct.generation)
+      head : take 128 (beside (other w.index) p) ≡ written_header f w.payload
+      head = ap (take 128) old_is ∙ same_header ∙ new_header
+
+      go : Resting p (other w.index) i → ⊥
+      go (Resting.zeroed is_a first zeros) = false_true {A = ⊥} not_blank (ap (list_all (λ b. b == 0)) (sym head) ∙ zeros)
+      go (Resting.past older) =
+          let written : (header (beside (other w.index) p)).generation ≡ f.generation =
+          ap (λ (h : Header). h.generation) (under_header p (other w.index) i made.leads fitting (beside (other w.index) p) refl head) in
+          omega (arith, written, older.generation, correct.generation)
+      go (Resting.lapsed stands fails short same_sum) =
+          false_true {A = ⊥} fails
+          (passed_is (beside (other w.index) p) _ (under_check p (other w.index) i made.leads fitting (beside (other w.index) p) refl head)).sum_is
+
+-- ---- to a sound pair
+
+module _ (w : Write) (sound : SoundPair w.pair) (correct : CorrectWrite w) where
+  pub both_won : ◌≡◌ {A = SlotIndex × SlotInfo} (sound.newer, sound.info) (other w.index, correct.winner)
+  both_won = let both = sym (sound_won w.pair sound) ∙ correct.won in cc
+
+  abbrev pub sound_beside : BesideWinner (next_number (store w) w.pair) w
+  sound_beside =
+      record {
+        correct = correct;
+        leads = subst (λ (won : SlotIndex × SlotInfo). Leads w.pair won.0 won.1) both_won (sound_leads w.pair sound);
+        some = omega arith;
+      }
+
+  pub sound_resting : Resting w.pair (other w.index) correct.winner
+  sound_resting = subst (λ (won : SlotIndex × SlotInfo). Resting w.pair won.0 won.1) both_won (sound_rests w.pair sound)
+
+  pub last_before : last_record w.pair ≡ payload_of correct.winner (slot_at (other w.index) w.pair).bytes
+  last_before =
+      last_is w.pair sound ∙ ap (λ (won : SlotIndex × SlotInfo). payload_of won.1 (slot_at won.0 w.pair).bytes) both_won
 
 pub encoded : Encoded
-encoded = not_refused
+encoded w sound correct = not_refused w (sound_beside w sound correct)

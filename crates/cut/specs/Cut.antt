@@ -107,10 +107,14 @@ abbrev pub Possible : Tear → ℕ → Type 0
 Possible (Ascending k) size = CutPoint k size
 Possible (Sectors reached) size = Unit {0}
 
--- Correct write: for the slot that is not the winner, in format 2 with the identity and size that slot is read with, generation one up,
--- previous checksum the winner's, number one above the store's highest, both below 2^64, acceptable payload that fits the slot. The
+-- The number of a write to a pair of the store: one above the highest of all numbered slots.
+abbrev pub next_number : List Pair → Pair → ℕ
+next_number ps p = highest (slots (shown ps)) + 1
+
+-- Correct write with a number n: for the slot that is not the winner, in format 2 with the identity and size that slot is read with,
+-- generation one up, previous checksum the winner's, generation and number below 2^64, acceptable payload that fits the slot. The
 -- owner generation, the compatible flags and the payload are of their types, and the buffer is of the slot's size.
-pub record CorrectWrite (w : Write) : Type 0 where
+pub record CorrectWith (n : ℕ) (w : Write) : Type 0 where
   pub winner : SlotInfo
   pub won : winner_info (report w.pair) ≡ Some (other w.index, winner)
   pub format : w.fields.format_major ≡ 2
@@ -122,7 +126,7 @@ pub record CorrectWrite (w : Write) : Type 0 where
   pub generation : w.fields.generation ≡ winner.generation + 1
   pub generation_fits : w.fields.generation < 2 ^ 64
   pub prev : w.fields.prev_header_crc32c ≡ winner.header_crc32c
-  pub number : w.fields.meta_seq ≡ highest (slots (shown (store w))) + 1
+  pub number : w.fields.meta_seq ≡ n
   pub number_fits : w.fields.meta_seq < 2 ^ 64
   pub owner : w.fields.owner_generation < 2 ^ 64
   pub compat : w.fields.compat_flags < 2 ^ 32
@@ -130,6 +134,10 @@ pub record CorrectWrite (w : Write) : Type 0 where
   pub accepted : accepts w.pair.decoder w.payload ≡ true
   pub fits : 128 + length w.payload ≤ size w
   pub room : length w.buffer ≡ size w
+
+-- Correct write: its number is one above the store's highest.
+abbrev pub CorrectWrite : Write → Type 0
+CorrectWrite w = CorrectWith (next_number (store w) w.pair) w
 
 -- ---- what the cut left
 
@@ -209,18 +217,23 @@ pub data AllReadBack : List Pair → List PairVerdict → List (List ℕ) → Ty
   more : {p : Pair} {v : PairVerdict} {r : List ℕ} {ps : List Pair} {vs : List PairVerdict} {rs : List (List ℕ)}
       → ReadBack p v r → AllReadBack ps vs rs → AllReadBack (p ∷ ps) (v ∷ vs) (r ∷ rs)
 
--- What is concluded, where the lent verdicts were `out`.
+-- What the judge answers over the pairs, handed this mark, where the lent verdicts were `out`: every pair is Confirmed, and the store is
+-- writable.
+pub record Confirmed (ps : List Pair) (clean : Bool) (out : List ℕ) (verdict : List PairVerdict) (judgement : Judgement) : Type 0 where
+  -- `judge` over the frames,
+  pub answer : judge_frames (frames ps) (mark clean) (length out) ≡ Ok judgement
+  pub written : frames_left (frames ps) (mark clean) out ≡ row_bytes verdict
+  -- and over the row of pairs the same.
+  pub row_answer : judge_records (reads ps) clean (length ps) ≡ Ok judgement
+  pub row_written : (rows : List PairVerdict) → length rows ≡ length ps → records_left (reads ps) clean rows ≡ verdict
+  pub confirmed : Every (λ (v : PairVerdict). v.standing ≡ Standing.Confirmed) verdict
+  pub writable : judgement.writable ≡ true
+
+-- What is concluded of a cut.
 pub record Survives (w : Write) (out : List ℕ) : Type 0 where
   pub verdict : List PairVerdict
   pub judgement : Judgement
-  -- `judge` over the frames,
-  pub answer : judge_frames (frames (after w)) (mark (handed w)) (length out) ≡ Ok judgement
-  pub written : frames_left (frames (after w)) (mark (handed w)) out ≡ row_bytes verdict
-  -- and over the row of pairs the same.
-  pub row_answer : judge_records (reads (after w)) (handed w) (length (after w)) ≡ Ok judgement
-  pub row_written : (rows : List PairVerdict) → length rows ≡ length (after w) → records_left (reads (after w)) (handed w) rows ≡ verdict
-  pub confirmed : Every (λ (v : PairVerdict). v.standing ≡ Standing.Confirmed) verdict
-  pub writable : judgement.writable ≡ true
+  pub judged : Confirmed (after w) (handed w) out verdict judgement
   pub heal : (judgement.heal ≡ None) ⊎ (judgement.heal ≡ Some (length w.before, w.index))
   pub back : AllReadBack (after w) verdict (records w)
 

@@ -20,7 +20,7 @@ use Rattle.meta.specs.Page.{header_at, decode_page, entries, header_bytes as pag
 use Rattle.cut.specs.Store.{Every, Page, accepts, SoundPair, Sound}
 use Rattle.cut.specs.Cut.{Sectors, by_sector, torn, CorrectWrite, stands_whole, whole}
 use Rattle.cut.proofs.ByteLaws.{bytes_tested}
-use Rattle.cut.proofs.PairLaws.{sound_won}
+use Rattle.cut.proofs.StateLaws.{sound_won}
 use Rattle.cut_examples.specs.Stores.{long_record, zeros_for, volume_pair, second_page, long_older_fields, long_newer_fields, long_page, long_store}
 use Rattle.cut_examples.specs.Writes.{IsMet, StoresSound, long_fields, long_write, neither, the_first, the_second, both, LongMet, LongWhole}
 use Rattle.cut_examples.specs.Computed.{torn_payload, valid_read}

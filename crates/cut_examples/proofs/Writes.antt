@@ -30,7 +30,8 @@ use Rattle.cut_examples.specs.Stores.{volume_record, page_record, rest, fields, 
 use Rattle.cut_examples.specs.Writes.{IsMet, MetIsEnough, write_to, page_write, marked_fields, volume_write, next_fields, second_write, later_fields, later_write, PageMet, VolumeMet, SecondMet, LaterMet, StandsWhole, MarkHanded}
 use Rattle.cut.proofs.ByteLaws.{bytes_tested, row_bytes, slot_all_bytes}
 use Rattle.cut.proofs.StatusLaws.{false_true}
-use Rattle.cut.proofs.PairLaws.{valid_number, blank_number, sound_won}
+use Rattle.cut.proofs.PairLaws.{valid_number, blank_number}
+use Rattle.cut.proofs.StateLaws.{sound_won}
 use Rattle.cut.proofs.CutLaws.{differ, failed_sum, failed_payload, older_at_most}
 use Rattle.cut.proofs.StatementLaws.{unmarked_store, torn_handed, whole_handed}
 use Rattle.cut.proofs.Theorem.{cut_theorem}

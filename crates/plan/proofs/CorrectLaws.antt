@@ -1,26 +1,27 @@
 -- A planned write is a correct write, and so the cut theorem is about it.
-use Rattle.std.proofs.Common.{◌≡◌, refl, sym, ap, ap₂, subst, ◌∙◌, List, ◌∷◌, ◌++◌, ℕ, ◌+◌, ◌^◌, ◌≤◌, ◌<◌, arith, length, Option, Some, None, Result, Ok, Err}
-use Rattle.std.proofs.lemmas.Option.{some_pair_parts}
+use Rattle.std.proofs.Common.{◌≡◌, refl, sym, ap, ap₂, subst, ◌∙◌, true, List, ◌∷◌, ◌++◌, ℕ, ◌+◌, ◌^◌, ◌≤◌, ◌<◌, arith, length, Option, Some, None, Result, Ok, Err}
+use Rattle.std.proofs.lemmas.Option.{some_pair_parts, same_Some}
 use Rattle.codec.specs.Bytes.{AllBytes}
 use Rattle.slot.specs.Status.{other}
 use Rattle.slot.specs.Write.{encode_check, encoded as encode_by, encode}
 use Rattle.slot.specs.declared.slot.SlotIndex.{SlotIndex}
+use Rattle.slot.specs.declared.slot.SlotInfo.{SlotInfo}
 use Rattle.slot.specs.declared.slot.SlotFields.{SlotFields}
 use Rattle.slot.specs.declared.slot.EncodeError.{EncodeError}
 use Rattle.slot.specs.declared.slot.Expect.{Expect}
 use Rattle.slot.proofs.Room.{power_room}
 use Rattle.slot.proofs.RoundTripLaws.{accepted}
-use Rattle.pair.specs.Pair.{next_write}
+use Rattle.pair.specs.Pair.{winner_info, next_write}
 use Rattle.judge.specs.Numbers.{slots, highest}
 use Rattle.judge.specs.Verdict.{by_index}
 use Rattle.judge.specs.Frames.{row}
 use Rattle.judge.specs.Same.{AllFit, frame_of}
 use Rattle.judge.proofs.SameLaws.{row-is}
 use Rattle.judge.specs.declared.pairs.Pair.{Pair as ShownPair}
-use Rattle.cut.specs.Store.{Every, Pair, slot_at, report, framed_pair, framed, frames, SoundPair}
-use Rattle.cut.specs.Cut.{Ascending, Sectors, old, new, left, AccidentBy}
+use Rattle.cut.specs.Store.{Every, Pair, accepts, slot_at, report, framed_pair, framed, shown, frames, SoundPair}
+use Rattle.cut.specs.Cut.{Tear, Ascending, Sectors, old, new, left, CorrectWith, AccidentBy}
 use Rattle.cut.proofs.FrameLaws.{PairTyped, row_fits}
-use Rattle.cut.proofs.PairLaws.{sound_won}
+use Rattle.cut.proofs.StateLaws.{sound_won}
 use Rattle.cut.proofs.WriteLaws.{other_other}
 use Rattle.cut.proofs.Theorem.{cut_theorem, every_behind, every_first, sound_pairs}
 use Rattle.plan.specs.declared.error.PlanError.{PlanError}
@@ -29,13 +30,50 @@ use Rattle.plan.specs.Pairs.{frame_report}
 use Rattle.plan.specs.Plan.{followed, plan_write}
 use Rattle.plan.specs.Next.{fields_of, encoded, write_by, next_write as next_by}
 use Rattle.plan.specs.Promise.{NumberedPair, write_of, PlannedIsCorrect, Answer, SurvivesCuts, BothKindsSurvived}
-use Rattle.plan.proofs.PlanLaws.{plan_has, planned_frame, next_of_winner}
+use Rattle.plan.proofs.PlanLaws.{Has, plan_has, planned_frame, next_of_winner}
 use Rattle.plan.proofs.ReportLaws.{held_report, winner_held, followed_held}
 use Rattle.plan.proofs.FrameLaws.{frame_reports, frame_at, fits_at}
 
-all_typed : {ps : List Pair} → Every NumberedPair ps → Every PairTyped ps
+pub all_typed : {ps : List Pair} → Every NumberedPair ps → Every PairTyped ps
 all_typed Every.none = Every.none
 all_typed (Every.more first rest) = Every.more (record { a = (first SlotIndex.A).typed; b = (first SlotIndex.B).typed }) (all_typed rest)
+
+-- A plan for the slot beside the winner, after the winner's record and the number `most`, is of a correct write with the next number.
+pub given_correct : (before : List Pair) (p : Pair) (behind : List Pair) (won : SlotIndex × SlotInfo) (plan : Plan) (owner compat : ℕ) (payload buffer : List ℕ)
+    (tear : Tear) (next : Option SlotIndex) (most : ℕ)
+    → winner_info (report p) ≡ Some won
+    → plan.index ≡ other won.0
+    → Has next (won.1.generation, won.1.header_crc32c) most plan
+    → owner < 2 ^ 64
+    → compat < 2 ^ 32
+    → AllBytes payload
+    → accepts p.decoder payload ≡ true
+    → 128 + length payload ≤ 2 ^ (slot_at plan.index p).expect.log2_slot_size
+    → length buffer ≡ 2 ^ (slot_at plan.index p).expect.log2_slot_size
+    → CorrectWith (most + 1) (write_of before p behind plan owner compat payload buffer tear)
+given_correct before p behind won plan owner compat payload buffer tear next most won_is index_is has owner_fits compat_fits bytes accepts_it fits room =
+    let beside : won.0 ≡ other plan.index = sym (other_other won.0) ∙ ap other (sym index_is) in
+    record {
+      winner = won.1;
+      won = won_is ∙ ap (λ (x : SlotIndex). Some (x, won.1)) beside;
+      format = refl;
+      volume = refl;
+      object = refl;
+      offset = refl;
+      index = refl;
+      log2 = refl;
+      generation = has.generation;
+      generation_fits = has.generation_fits;
+      prev = has.prev;
+      number = has.number;
+      number_fits = has.number_fits;
+      owner = owner_fits;
+      compat = compat_fits;
+      bytes = bytes;
+      accepted = accepts_it;
+      fits = fits;
+      room = room;
+    }
 
 pub planned_is_correct : PlannedIsCorrect
 planned_is_correct before p behind won plan owner compat payload buffer tear numbered won_is is owner_fits compat_fits bytes accepts_it fits room =
@@ -49,29 +87,12 @@ planned_is_correct before p behind won plan owner compat payload buffer tear num
     ap followed reports ∙ followed_held (report p) won.0 won.1 won_is in
     let next : Some plan.index ≡ Some (other won.0) =
     sym has.next_is ∙ ap next_write reports ∙ next_of_winner (held_report (report p)) won.0 _ (winner_held (report p) won.0 won.1 won_is) in
-    let index_is : plan.index ≡ other won.0 = cc in
-    let beside : won.0 ≡ other plan.index = sym (other_other won.0) ∙ ap other (sym index_is) in
-    record {
-      winner = won.1;
-      won = won_is ∙ ap (λ (x : SlotIndex). Some (x, won.1)) beside;
-      format = refl;
-      volume = refl;
-      object = refl;
-      offset = refl;
-      index = refl;
-      log2 = refl;
-      generation = has.generation ∙ ap (λ (x : ℕ × ℕ). x.0 + 1) follows;
-      generation_fits = has.generation_fits;
-      prev = has.prev ∙ ap (λ (x : ℕ × ℕ). x.1) follows;
-      number = has.number ∙ ap (λ (row : List ShownPair). highest (slots row) + 1) (row-is (framed ps) all_fit);
-      number_fits = has.number_fits;
-      owner = owner_fits;
-      compat = compat_fits;
-      bytes = bytes;
-      accepted = accepts_it;
-      fits = fits;
-      room = room;
-    }
+    let tops : highest (slots (row (frames ps))) ≡ highest (slots (shown ps)) = ap (λ (row : List ShownPair). highest (slots row)) (row-is (framed ps) all_fit) in
+    given_correct before p behind won plan owner compat payload buffer tear (next_write (frame_report f)) (highest (slots (shown ps))) won_is
+    (same_Some plan.index (other won.0) next)
+    (subst (λ (r : ℕ × ℕ). Has (next_write (frame_report f)) r (highest (slots (shown ps))) plan) follows
+    (subst (λ (most : ℕ). Has (next_write (frame_report f)) (followed (frame_report f)) most plan) tops has))
+    owner_fits compat_fits bytes accepts_it fits room
 
 -- ---- where a plan is answered, its bytes were written
 
@@ -83,7 +104,8 @@ record Answered (given : List ℕ) (i : ℕ) (a b : Expect) (owner compat : ℕ)
 abbrev After : Type 0
 After = List ℕ × Answer
 
-not_refused : (f : SlotFields) (payload buffer : List ℕ) (crc : ℕ) → (encode f payload buffer).1 ≡ Ok crc → encode_check f payload (length buffer) ≡ Ok tt
+not_refused : (f : SlotFields) (payload buffer : List ℕ) (crc : ℕ) → (encode f payload buffer).1 ≡ Ok crc
+    → encode_check f payload (length buffer) ≡ Ok tt
 unfolding encode
 not_refused f payload buffer crc is = go (encode_check f payload (length buffer)) is
   where

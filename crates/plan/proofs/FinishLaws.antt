@@ -1,30 +1,19 @@
 -- A correct write to a sound store that is finished leaves a sound store: the written slot is Valid beside the winner before.
-use Rattle.std.proofs.Common.{◌≡◌, refl, sym, ap, ap₂, ◌∙◌, true, List, [], ◌∷◌, ◌++◌, ℕ, ◌+◌, ◌≤◌, ◌<◌, arith}
-use Rattle.codec.specs.Bytes.{AllBytes}
+use Rattle.std.proofs.Common.{◌≡◌, ap, ap₂, ◌∙◌, List, [], ◌∷◌, ◌++◌, ℕ, ◌<◌, arith}
 use Rattle.slot.specs.Status.{other}
 use Rattle.slot.specs.Payload.{payload as payload_of}
-use Rattle.slot.specs.Read.{validate}
-use Rattle.slot.specs.Laws.{info_of, IsReadBack}
+use Rattle.slot.specs.Laws.{info_of}
 use Rattle.slot.specs.declared.slot.SlotIndex.{SlotIndex}
-use Rattle.slot.specs.declared.slot.SlotInfo.{SlotInfo}
-use Rattle.slot.specs.declared.slot.SlotStatus.{SlotStatus}
-use Rattle.slot.proofs.RoundTripLaws.{round_trip}
-use Rattle.judge.specs.Numbers.{slots, highest}
-use Rattle.cut.specs.Store.{Every, Slot, Pair, accepts, slot_at, status, shown, Beside, SoundSlot, SoundPair, IsPage, Sound}
-use Rattle.cut.specs.Cut.{Write, store, new, with_bytes, with_slot, CorrectWrite}
-use Rattle.cut.proofs.PairLaws.{number_at, valid_number, last_is}
-use Rattle.cut.proofs.Theorem.{bytes_typed, every_behind, every_first, sound_pairs}
-use Rattle.cut.proofs.WriteLaws.{none_refused, fields_fit, fields_proper, expect_is, new_bytes, winner_valid, winner_accepted}
-use Rattle.cut.proofs.WrittenPair.{kept_status, kept_bytes, put_bytes, put_decoder}
+use Rattle.cut.specs.Store.{Every, Slot, Pair, accepts, slot_at, status, Beside, SoundPair, IsPage, Sound}
+use Rattle.cut.specs.Cut.{Write, store, new, with_slot, next_number, CorrectWrite}
+use Rattle.cut.proofs.PairLaws.{last_is}
+use Rattle.cut.proofs.NumberLaws.{in_highest}
+use Rattle.cut.proofs.StateLaws.{Leads, Resting, winner_number}
+use Rattle.cut.proofs.NextLaws.{kept_slot, put_decoder}
+use Rattle.cut.proofs.WriteLaws.{BesideWinner, sound_beside}
+use Rattle.cut.proofs.LeftLaws.{finished_wins}
+use Rattle.cut.proofs.Theorem.{every_behind, every_first, sound_pairs}
 use Rattle.plan.specs.Promise.{finished_pair, FinishedIsSound}
-
--- ---- no number of a pair is above the highest
-
-in_highest : (before : List Pair) (p : Pair) (behind : List Pair) (index : SlotIndex)
-    → number_at index p ≤ highest (slots (shown (before ++ p ∷ behind)))
-in_highest [] p behind SlotIndex.A = omega arith
-in_highest [] p behind SlotIndex.B = omega arith
-in_highest (q ∷ before) p behind index = let rest = in_highest before p behind index in omega arith
 
 -- ---- one pair in the place of another
 
@@ -44,67 +33,42 @@ sound_put (q ∷ before) p behind index s (Sound.row volume pages all) here =
     (every_put before p (with_slot index s p) behind pages (page_kept index s p (every_first (every_behind before (p ∷ behind) pages))))
     (every_put (q ∷ before) p (with_slot index s p) behind all here)
 
-slot_put : (s : Slot) (bytes : List ℕ) → SoundSlot s → AllBytes bytes → SoundSlot (with_bytes bytes s)
-slot_put s bytes sound all = record { typed = bytes_typed s bytes sound.typed all; format = sound.format; numbered = sound.numbered }
-
-slots_put : (index : SlotIndex) (bytes : List ℕ) (p : Pair) → ((at : SlotIndex) → SoundSlot (slot_at at p)) → AllBytes bytes
-    → (at : SlotIndex) → SoundSlot (slot_at at (with_slot index bytes p))
-slots_put SlotIndex.A bytes p sound all SlotIndex.A = slot_put p.a bytes (sound SlotIndex.A) all
-slots_put SlotIndex.A bytes p sound all SlotIndex.B = sound SlotIndex.B
-slots_put SlotIndex.B bytes p sound all SlotIndex.A = sound SlotIndex.A
-slots_put SlotIndex.B bytes p sound all SlotIndex.B = slot_put p.b bytes (sound SlotIndex.B) all
-
-put_status : (p : Pair) (s : List ℕ) (index : SlotIndex) → status (slot_at index (with_slot index s p)) ≡ validate s (slot_at index p).expect
-put_status p s SlotIndex.A = refl
-put_status p s SlotIndex.B = refl
-
 -- ---- the written pair
 
 module _ (w : Write) (sound : Sound (store w)) (correct : CorrectWrite w) where
   pair_sound : SoundPair w.pair
   pair_sound = every_first (every_behind w.before (w.pair ∷ w.behind) (sound_pairs sound))
 
-  abbrev fresh : SlotInfo
-  fresh = info_of w.fields w.payload
+  abbrev made : BesideWinner (next_number (store w) w.pair) w
+  made = sound_beside w pair_sound correct
 
   abbrev q : Pair
   q = finished_pair w
 
-  read_back : IsReadBack (new w) w.fields w.payload true
-  read_back =
-      round_trip.written w.fields w.payload w.buffer true (fields_fit w pair_sound correct) (none_refused w pair_sound correct)
-      (fields_proper w pair_sound correct).number
-
-  fresh_valid : status (slot_at w.index q) ≡ SlotStatus.Valid fresh
-  fresh_valid = put_status w.pair (new w) w.index ∙ ap (validate (new w)) (sym (expect_is w pair_sound correct)) ∙ read_back.valid
-
-  fresh_payload : payload_of fresh (slot_at w.index q).bytes ≡ w.payload
-  fresh_payload = ap (payload_of fresh) (put_bytes w.pair (new w) w.index) ∙ read_back.payload_same
-
-  winner_kept : status (slot_at (other w.index) q) ≡ SlotStatus.Valid correct.winner
-  winner_kept = kept_status w.pair (new w) w.index ∙ winner_valid w pair_sound correct
-
-  winner_takes : accepts q.decoder (payload_of correct.winner (slot_at (other w.index) q).bytes) ≡ true
-  winner_takes =
-      ap₂ (λ d (r : List ℕ). accepts d r) (put_decoder w.pair (new w) w.index) (ap (payload_of correct.winner) (kept_bytes w.pair (new w) w.index))
-      ∙ winner_accepted w pair_sound correct
-
-  higher : correct.winner.meta_seq < fresh.meta_seq
+  higher : correct.winner.meta_seq < next_number (store w) w.pair
   higher =
       let among = in_highest w.before w.pair w.behind (other w.index) in
-      let own = valid_number w.pair (other w.index) correct.winner (winner_valid w pair_sound correct) in
-      let above : fresh.meta_seq ≡ highest (slots (shown (store w))) + 1 = correct.number in
+      let own = winner_number w.pair (other w.index) correct.winner made.leads in
       omega arith
+
+  wins : Leads q w.index (info_of w.fields w.payload) × Resting q w.index (info_of w.fields w.payload)
+      × (payload_of (info_of w.fields w.payload) (slot_at w.index q).bytes ≡ w.payload)
+  wins = finished_wins w made higher
 
   written_sound : SoundPair q
   written_sound =
+      let above = higher in
       record {
-        slots = slots_put w.index (new w) w.pair pair_sound.slots (new_bytes w pair_sound correct);
+        slots = wins.0.slots;
         newer = w.index;
-        info = fresh;
-        valid = fresh_valid;
-        accepted = ap₂ (λ d (r : List ℕ). accepts d r) (put_decoder w.pair (new w) w.index) fresh_payload ∙ correct.accepted;
-        beside = Beside.both correct.winner winner_kept correct.generation higher correct.prev winner_takes;
+        info = info_of w.fields w.payload;
+        valid = wins.0.valid;
+        accepted = wins.0.accepted;
+        beside =
+            Beside.both correct.winner (ap status (kept_slot w.pair (new w) w.index) ∙ made.leads.valid) correct.generation
+            (omega (arith, correct.number)) correct.prev
+            (ap₂ (λ d (s : Slot). accepts d (payload_of correct.winner s.bytes)) (put_decoder w.pair (new w) w.index) (kept_slot w.pair (new w) w.index)
+            ∙ made.leads.accepted);
       }
 
 pub finished_is_sound : FinishedIsSound
@@ -112,5 +76,5 @@ unfolding written_sound
 finished_is_sound w sound correct =
     let written = written_sound w sound correct in (
       sound_put w.before w.pair w.behind w.index (new w) sound written,
-      last_is (finished_pair w) written ∙ fresh_payload w sound correct,
+      last_is (finished_pair w) written ∙ (wins w sound correct).2,
     )

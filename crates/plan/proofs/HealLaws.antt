@@ -1,5 +1,5 @@
 -- The planned heal is of the slot that the judge names.
-use Rattle.std.proofs.Common.{◌≡◌, refl, sym, ap, ap₂, ◌∙◌, List, ℕ, ◌*◌, ◌==◌, slice_get, Option, Some, None, Result, Ok, Err}
+use Rattle.std.proofs.Common.{◌≡◌, refl, sym, ap, ap₂, subst, ◌∙◌, List, ℕ, ◌*◌, ◌==◌, slice_get, Option, Some, None, Result, Ok, Err}
 use Rattle.std.proofs.lemmas.Option.{some_pair_parts, same_Some}
 use Rattle.slot.specs.declared.slot.SlotIndex.{SlotIndex}
 use Rattle.judge.specs.Numbers.{slots, highest_other}
@@ -13,10 +13,11 @@ use Rattle.plan.specs.Error.{unless_refused}
 use Rattle.plan.specs.Pairs.{frame_report}
 use Rattle.plan.specs.Plan.{followed, plan_at, some_plan}
 use Rattle.plan.specs.Heal.{place, with_pair, heal_in, heal_for, plan_heal, HealsTheNamed}
-use Rattle.plan.proofs.PlanLaws.{plan_has}
+use Rattle.plan.proofs.PlanLaws.{Has, plan_has}
 
 -- What the judge answers where it answers.
-judged : (s : List ℕ) (clean : ℕ) (j : Judgement) → judge_frames s clean (pair_count s * verdict_width) ≡ Ok j → judgement (row s) (clean == 1) ≡ j
+judged : (s : List ℕ) (clean : ℕ) (j : Judgement) → judge_frames s clean (pair_count s * verdict_width) ≡ Ok j
+    → judgement (row s) (clean == 1) ≡ j
 unfolding judge_frames
 judged s clean j is = go (frames_error s clean (pair_count s * verdict_width)) is
   where
@@ -24,21 +25,24 @@ judged s clean j is = go (frames_error s clean (pair_count s * verdict_width)) i
     go None is = cc
     go (Some e) is = absurd cc
 
--- A plan is answered for the pair and the slot that it was asked for.
-asked : (f : Option (List ℕ)) (pair k : ℕ) (index : SlotIndex) (most : ℕ) (plan : Plan)
-    → heal_in f k index most ≡ Ok (Some (pair, plan)) → ◌≡◌ {A = ℕ × SlotIndex} (k, index) (pair, plan.index)
-asked None pair k index most plan is = absurd cc
-asked (Some f) pair k index most plan is = go (plan_at index (followed (frame_report f)) most) refl is
+-- A plan is answered for the pair and the slot that it was asked for, after the winner's record and this number.
+asked : (f : List ℕ) (pair k : ℕ) (index : SlotIndex) (most : ℕ) (plan : Plan)
+    → heal_in (Some f) k index most ≡ Ok (Some (pair, plan))
+    → (◌≡◌ {A = ℕ × SlotIndex} (k, index) (pair, plan.index)) × Has (Some plan.index) (followed (frame_report f)) most plan
+asked f pair k index most plan is = go (plan_at index (followed (frame_report f)) most) refl is
   where
     go : (r : Result Plan PlanError) → plan_at index (followed (frame_report f)) most ≡ r → with_pair k r ≡ Ok (Some (pair, plan))
-        → ◌≡◌ {A = ℕ × SlotIndex} (k, index) (pair, plan.index)
+        → (◌≡◌ {A = ℕ × SlotIndex} (k, index) (pair, plan.index)) × Has (Some plan.index) (followed (frame_report f)) most plan
     go (Err e) r_is is = absurd cc
     go (Ok p) r_is is =
         let inner : Some (k, p) ≡ Some (pair, plan) = cc in
         let same = some_pair_parts k pair p plan inner in
         let has = plan_has (Some index) (followed (frame_report f)) most p (ap some_plan r_is) in
-        let next : Some index ≡ Some p.index = has.next_is in
-        ap₂ (λ (n : ℕ) (x : SlotIndex). (n, x)) same.0 (same_Some index p.index next ∙ ap (λ (x : Plan). x.index) same.1)
+        let index_is : index ≡ p.index = same_Some index p.index has.next_is in (
+          ap₂ (λ (n : ℕ) (x : SlotIndex). (n, x)) same.0 (index_is ∙ ap (λ (x : Plan). x.index) same.1),
+          subst (λ (x : Plan). Has (Some x.index) (followed (frame_report f)) most x) same.1
+              (subst (λ (x : SlotIndex). Has (Some x) (followed (frame_report f)) most p) index_is has),
+        )
 
 not_none : (f : Option (List ℕ)) (k : ℕ) (index : SlotIndex) (most : ℕ) → heal_in f k index most ≡ Ok None → ⊥
 not_none None k index most is = cc
@@ -49,18 +53,44 @@ not_none (Some f) k index most is = go (plan_at index (followed (frame_report f)
     go (Ok p) is = cc
 
 module _ (s : List ℕ) (clean : ℕ) where
-  abbrev named : Option (ℕ × SlotIndex)
+  abbrev pub named : Option (ℕ × SlotIndex)
   named = (judgement (row s) (clean == 1)).heal
 
-  planned_named : (pair : ℕ) (plan : Plan) → plan_heal s clean ≡ Ok (Some (pair, plan)) → named ≡ Some (pair, plan.index)
-  unfolding plan_heal
-  planned_named pair plan is = refused (refusal s clean) is
-    where
-      go : (n : Option (ℕ × SlotIndex)) → heal_for s n ≡ Ok (Some (pair, plan)) → n ≡ Some (pair, plan.index)
-      go None is = absurd cc
-      go (Some n) is = ap Some (asked (slice_get (frames s) n.0) pair n.0 n.1 (highest_other (place n.0 n.1) (slots (row s))) plan is)
+  -- What is planned is for the named slot, after the record of its pair's winner and the highest of all other numbers.
+  abbrev pub Planned : ℕ → Plan → List ℕ → Type 0
+  Planned pair plan f =
+      (slice_get (frames s) pair ≡ Some f)
+      × Has (Some plan.index) (followed (frame_report f)) (highest_other (place pair plan.index) (slots (row s))) plan
 
-      refused : (e : Option JudgeError) → unless_refused e (heal_for s named) ≡ Ok (Some (pair, plan)) → named ≡ Some (pair, plan.index)
+  pub planned : (pair : ℕ) (plan : Plan) → plan_heal s clean ≡ Ok (Some (pair, plan))
+      → (named ≡ Some (pair, plan.index)) × ((f : List ℕ) × Planned pair plan f)
+  unfolding plan_heal
+  planned pair plan is = refused (refusal s clean) is
+    where
+      in_frame : (k : ℕ) (index : SlotIndex) (frame : Option (List ℕ)) → slice_get (frames s) k ≡ frame
+          → heal_in frame k index (highest_other (place k index) (slots (row s))) ≡ Ok (Some (pair, plan))
+          → (◌≡◌ {A = ℕ × SlotIndex} (k, index) (pair, plan.index)) × ((f : List ℕ) × Planned pair plan f)
+      in_frame k index None frame_is is = absurd cc
+      in_frame k index (Some f) frame_is is =
+          let known = asked f pair k index (highest_other (place k index) (slots (row s))) plan is in (
+            known.0,
+            (
+              f,
+              subst
+                  (λ (x : ℕ × SlotIndex).
+                  (slice_get (frames s) x.0 ≡ Some f)
+                  × Has (Some plan.index) (followed (frame_report f)) (highest_other (place x.0 x.1) (slots (row s))) plan)
+                  known.0 (frame_is, known.1),
+            ),
+          )
+
+      go : (n : Option (ℕ × SlotIndex)) → heal_for s n ≡ Ok (Some (pair, plan))
+          → (n ≡ Some (pair, plan.index)) × ((f : List ℕ) × Planned pair plan f)
+      go None is = absurd cc
+      go (Some n) is = let known = in_frame n.0 n.1 (slice_get (frames s) n.0) refl is in (ap Some known.0, known.1)
+
+      refused : (e : Option JudgeError) → unless_refused e (heal_for s named) ≡ Ok (Some (pair, plan))
+          → (named ≡ Some (pair, plan.index)) × ((f : List ℕ) × Planned pair plan f)
       refused None is = go named is
       refused (Some e) is = absurd cc
 
@@ -80,6 +110,6 @@ pub heals_the_named : HealsTheNamed
 heals_the_named =
     record {
       planned = λ s clean pair plan j is answer.
-          ap (λ (x : Judgement). x.heal) (sym (judged s clean j answer)) ∙ planned_named s clean pair plan is;
+          ap (λ (x : Judgement). x.heal) (sym (judged s clean j answer)) ∙ (planned s clean pair plan is).0;
       none = λ s clean j is answer. ap (λ (x : Judgement). x.heal) (sym (judged s clean j answer)) ∙ none_planned s clean is;
     }

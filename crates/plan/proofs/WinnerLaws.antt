@@ -14,7 +14,7 @@ use Rattle.plan.specs.Numbers.{case_winner, WinnersOfVerdicts}
 abbrev winners : List PairVerdict → List (Option SlotIndex)
 winners vs = map (λ v. v.winner) vs
 
-first_winner : (q : SlotIndex → Option ℕ → Bool) (c : PairCase) → (pair_verdict q c).winner ≡ case_winner c
+pub first_winner : (q : SlotIndex → Option ℕ → Bool) (c : PairCase) → (pair_verdict q c).winner ≡ case_winner c
 first_winner q PairCase.Refused = refl
 first_winner q PairCase.Lost = refl
 first_winner q (PairCase.Won index o) = refl

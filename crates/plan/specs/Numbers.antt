@@ -44,6 +44,6 @@ WinnersOfVerdicts = (ps : List Pair) (clean : Bool) → map (λ v. v.winner) (ve
 unfoldable pub next_number : List ℕ → Result ℕ PlanError
 next_number s = unless_refused (refusal s 0) (after (highest (slots (row s))))
 
--- Of a write that heals a store as the theorem has it: one above the numbers of all winners, 1 where there is none.
+-- Of a write that heals, in a history of writes: one above the numbers of all winners, 1 where there is none.
 unfoldable pub heal_number : List ℕ → Result ℕ PlanError
 heal_number s = unless_refused (refusal s 0) (after (highest_winner (row s)))
