@@ -1,0 +1,5 @@
+pub mod RowLaws
+pub mod States
+pub mod Steps
+pub mod Theorem
+pub mod PlanLaws

@@ -1,0 +1,304 @@
+-- The functions that plan a write give the writes of a history, and answer their numbers.
+use Rattle.std.proofs.Common.{◌≡◌, refl, sym, ap, ap₂, subst, ◌∙◌, true, false, List, [], ◌∷◌, ◌++◌, ℕ, zero, suc, ◌+◌, ◌*◌, ◌-◌, ◌^◌, ◌≤◌, arith, lt-ltb, length, drop, map, replicate, length-append, slice_get, Option, Some, None, Ok}
+use Rattle.std.specs.Simd.{first_chunks}
+use Rattle.std.proofs.Math.ListN.{length-replicate}
+use Rattle.std.proofs.lemmas.Option.{some_pair_parts, same_Some}
+use Rattle.slot.specs.Status.{other}
+use Rattle.slot.specs.declared.slot.SlotIndex.{SlotIndex}
+use Rattle.slot.specs.declared.slot.SlotInfo.{SlotInfo}
+use Rattle.pair.specs.Pair.{winner_info, next_write}
+use Rattle.judge.specs.Numbers.{slots, highest, highest_other}
+use Rattle.judge.specs.Judge.{judgement, unless}
+use Rattle.judge.specs.Frames.{frame_width, verdict_width, pair_count, frames as frames_in, row, frames_error, judge_frames, refusal}
+use Rattle.judge.specs.Same.{frame_of}
+use Rattle.judge.specs.declared.pairs.Pair.{Pair as ShownPair}
+use Rattle.judge.specs.declared.verdict.JudgeError.{JudgeError}
+use Rattle.judge.specs.declared.verdict.Judgement.{Judgement}
+use Rattle.judge.proofs.SameLaws.{frames-are, row-is}
+use Rattle.cut.specs.Store.{Every, Pair, report, framed_pair, framed, shown, frames}
+use Rattle.cut.specs.Cut.{Tear, Write, store, next_number as next_number_of, CorrectWith}
+use Rattle.cut.proofs.FrameLaws.{PairTyped, row_fits, judged_row}
+use Rattle.cut.proofs.WriteLaws.{other_other}
+use Rattle.cut.proofs.RowLaws.{rested_stands}
+use Rattle.plan.specs.Error.{unless_refused}
+use Rattle.plan.specs.Numbers.{after, highest_winner, next_number, heal_number}
+use Rattle.plan.specs.Pairs.{frame_report}
+use Rattle.plan.specs.Plan.{followed, plan_at, some_plan, plan_next, plan_for, plan_write}
+use Rattle.plan.specs.Heal.{place, with_pair, heal_in, heal_for, plan_heal}
+use Rattle.plan.specs.Promise.{NumberedPair, write_of}
+use Rattle.plan.specs.declared.write.Plan.{Plan}
+use Rattle.plan.proofs.PlanLaws.{Has, next_of_winner}
+use Rattle.plan.proofs.HealLaws.{planned}
+use Rattle.plan.proofs.ReportLaws.{held_report, winner_held, followed_held}
+use Rattle.plan.proofs.FrameLaws.{frame_reports, frame_at, fits_at}
+use Rattle.plan.proofs.CorrectLaws.{all_typed, given_correct, planned_is_correct}
+use Rattle.history.specs.History.{Tracked, pairs, named, heal_number as heal_number_of, Turn, Allowed, Put, write_to}
+use Rattle.history.specs.Laws.{NumbersAnswered, NumbersMeet, NumbersOfHistory, plan_of, AllowedIsPlanned, IsGiven, FreePlanIsAllowed, HealPlanIsAllowed}
+use Rattle.history.proofs.RowLaws.{rested_highest, others_are}
+use Rattle.history.proofs.States.{Rests, rested, all_rested, pairs_row, length_pairs, State, flies_stand, flies_number, flown_named, all_named, none_named, one_named}
+use Rattle.history.proofs.Steps.{every_split}
+use Rattle.history.proofs.Theorem.{reached_state}
+
+-- ---- nothing is refused
+
+length_chunks : {X : Type 0} (n k : ℕ) (xs : List X) → length (first_chunks n k xs) ≡ k
+length_chunks n zero xs = refl
+length_chunks n (suc k) xs = ap suc (length_chunks n k (drop n xs))
+
+length_framed : (ps : List Pair) → length (map frame_of (framed ps)) ≡ length ps
+length_framed [] = refl
+length_framed (p ∷ ps) = ap suc (length_framed ps)
+
+count_is : (ps : List Pair) → pair_count (frames ps) ≡ length ps
+count_is ps = sym (length_chunks frame_width (pair_count (frames ps)) (frames ps)) ∙ ap length (frames-are (framed ps)) ∙ length_framed ps
+
+module _ (ps : List Pair) (some : 1 ≤ length ps) (typed : Every PairTyped ps) where
+  abbrev out : List ℕ
+  out = replicate (pair_count (frames ps) * verdict_width) 0
+
+  not_refused : refusal (frames ps) 0 ≡ None
+  unfolding judge_frames
+  not_refused =
+      by_answer (refusal (frames ps) 0) (judgement (row (frames ps)) false) (judgement (shown ps) false)
+      (subst (λ (n : ℕ). unless (frames_error (frames ps) 0 n) (judgement (row (frames ps)) false) ≡ Ok (judgement (shown ps) false)) size
+      (judged_row ps some false typed out (size ∙ ap (λ (n : ℕ). n * verdict_width) (count_is ps))))
+    where
+      size : length out ≡ pair_count (frames ps) * verdict_width
+      size = length-replicate (pair_count (frames ps) * verdict_width) 0
+
+      by_answer : (e : Option JudgeError) (j k : Judgement) → unless e j ≡ Ok k → e ≡ None
+      by_answer None j k is = refl
+      by_answer (Some e) j k is = absurd cc
+
+  row_shown : row (frames ps) ≡ shown ps
+  row_shown = row-is (framed ps) (row_fits typed)
+
+pub numbers_answered : NumbersAnswered
+unfolding next_number heal_number
+numbers_answered ps some numbered =
+    let none = not_refused ps some (all_typed numbered) in
+    let shows = row_shown ps some (all_typed numbered) in (
+      ap₂ (λ (e : Option JudgeError) (row : List ShownPair). unless_refused e (after (highest (slots row)))) none shows,
+      ap₂ (λ (e : Option JudgeError) (row : List ShownPair). unless_refused e (after (highest_winner row))) none shows,
+    )
+
+-- ---- the numbers of a history
+
+meet : (ts : List Tracked) → State ts → NumbersMeet (pairs ts)
+meet ts (State.all_rest some all) =
+    record {
+      free = λ none. rested_highest (all_rested all);
+      healing = λ k index is. let never : ◌≡◌ {A = Option (ℕ × SlotIndex)} None (Some (k, index)) = sym (all_named some all) ∙ is in absurd cc;
+    }
+meet ts (State.one_flies before t behind split rest_before fly rest_behind) =
+    subst NumbersMeet (sym (ap pairs split ∙ pairs_row before t behind))
+    (record { free = free; healing = healing })
+  where
+    there : named (pairs before ++ t.pair ∷ pairs behind) ≡ Some (length (pairs before), other fly.x)
+    there = flown_named rest_before fly rest_behind
+
+    free : named (pairs before ++ t.pair ∷ pairs behind) ≡ None
+        → highest (slots (shown (pairs before ++ t.pair ∷ pairs behind))) ≡ highest_winner (shown (pairs before ++ t.pair ∷ pairs behind))
+    free none = let never : ◌≡◌ {A = Option (ℕ × SlotIndex)} None (Some (length (pairs before), other fly.x)) = sym none ∙ there in absurd cc
+
+    healing : (k : ℕ) (index : SlotIndex) → named (pairs before ++ t.pair ∷ pairs behind) ≡ Some (k, index)
+        → highest_other (place k index) (slots (shown (pairs before ++ t.pair ∷ pairs behind))) ≡ highest_winner (shown (pairs before ++ t.pair ∷ pairs behind))
+    healing k index is =
+        let both : ◌≡◌ {A = Option (ℕ × SlotIndex)} (Some (length (pairs before), other fly.x)) (Some (k, index)) = sym there ∙ is in
+        let parts = some_pair_parts _ _ _ _ both in
+        subst (λ (at : ℕ × SlotIndex).
+        highest_other (place at.0 at.1) (slots (shown (pairs before ++ t.pair ∷ pairs behind)))
+        ≡ highest_winner (shown (pairs before ++ t.pair ∷ pairs behind)))
+        (ap₂ (λ (n : ℕ) (x : SlotIndex). (n, x)) parts.0 parts.1)
+        (others_are (all_rested rest_before) (all_rested rest_behind) t.pair fly.x fly.i fly.led.leads (flies_number fly))
+
+pub numbers_of_history : NumbersOfHistory
+numbers_of_history ts reached = meet ts (reached_state reached)
+
+-- ---- the pairs are numbered
+
+rests_numbered : {ts : List Tracked} → Every Rests ts → Every NumberedPair (pairs ts)
+rests_numbered Every.none = Every.none
+rests_numbered (Every.more rests rest) = Every.more rests.led.leads.slots (rests_numbered rest)
+
+row_numbered : (t : Tracked) {before : List Tracked} {behind : List Tracked} → Every Rests before → NumberedPair t.pair → Every Rests behind
+    → Every NumberedPair (pairs (before ++ t ∷ behind))
+row_numbered t Every.none here rest = Every.more here (rests_numbered rest)
+row_numbered t (Every.more rests before) here rest = Every.more rests.led.leads.slots (row_numbered t before here rest)
+
+state_numbered : {ts : List Tracked} → State ts → Every NumberedPair (pairs ts)
+state_numbered (State.all_rest some all) = rests_numbered all
+state_numbered (State.one_flies before t behind split rest_before fly rest_behind) =
+    subst (λ (us : List Tracked). Every NumberedPair (pairs us)) (sym split) (row_numbered t rest_before fly.led.leads.slots rest_behind)
+
+-- ---- the frame of a pair of the store
+
+module _ (before : List Tracked) (t : Tracked) (behind : List Tracked) (state : State (before ++ t ∷ behind)) where
+  abbrev ps : List Pair
+  ps = pairs before ++ t.pair ∷ pairs behind
+
+  abbrev f : List ℕ
+  f = frame_of (framed_pair t.pair)
+
+  numbered : Every NumberedPair ps
+  numbered = subst (Every NumberedPair) (pairs_row before t behind) (state_numbered state)
+
+  some : 1 ≤ length ps
+  some = let all = length-append (pairs before) (t.pair ∷ pairs behind) in omega arith
+
+  none_refused : refusal (frames ps) 0 ≡ None
+  none_refused = not_refused ps some (all_typed numbered)
+
+  shows : row (frames ps) ≡ shown ps
+  shows = row_shown ps some (all_typed numbered)
+
+  at : slice_get (frames_in (frames ps)) (length (pairs before)) ≡ Some f
+  at = frame_at (pairs before) t.pair (pairs behind)
+
+  reports : frame_report f ≡ held_report (report t.pair)
+  reports = frame_reports t.pair (fits_at (pairs before) t.pair (pairs behind) (row_fits (all_typed numbered)))
+
+  module _ (x : SlotIndex) (i : SlotInfo) (won : winner_info (report t.pair) ≡ Some (x, i)) where
+    follows : ◌≡◌ {A = ℕ × ℕ} (followed (frame_report f)) (i.generation, i.header_crc32c)
+    follows = ap followed reports ∙ followed_held (report t.pair) x i won
+
+    next_is : next_write (frame_report f) ≡ Some (other x)
+    next_is = ap next_write reports ∙ next_of_winner (held_report (report t.pair)) x _ (winner_held (report t.pair) x i won)
+
+-- ---- every write of a history is planned
+
+free_number : {w : Write} {n : ℕ} → Turn w n → named (store w) ≡ None → n ≡ highest (slots (shown (store w))) + 1
+free_number (Turn.free none) is = refl
+free_number {w} (Turn.healing there) is =
+    let never : ◌≡◌ {A = Option (ℕ × SlotIndex)} None (Some (length w.before, w.index)) = sym is ∙ there in absurd cc
+
+healing_number : {w : Write} {n : ℕ} → Turn w n → named (store w) ≡ Some (length w.before, w.index)
+    → n ≡ highest_winner (shown (store w)) + 1
+healing_number (Turn.healing there) is = refl
+healing_number {w} (Turn.free none) is =
+    let never : ◌≡◌ {A = Option (ℕ × SlotIndex)} None (Some (length w.before, w.index)) = sym none ∙ is in absurd cc
+
+module _ (before : List Tracked) (t : Tracked) (behind : List Tracked) (q : Put) (state : State (before ++ t ∷ behind))
+    (allowed : Allowed (write_to before t behind q)) where
+  abbrev w : Write
+  w = write_to before t behind q
+
+  abbrev i : SlotInfo
+  i = allowed.correct.winner
+
+  follows_winner : ◌≡◌ {A = ℕ × ℕ} (followed (frame_report (f before t behind state))) (i.generation, i.header_crc32c)
+  follows_winner = follows before t behind state (other q.index) i allowed.correct.won
+
+  plan_is : (most : ℕ) → allowed.number ≡ most + 1
+      → plan_at q.index (followed (frame_report (f before t behind state))) most ≡ Ok (plan_of w)
+  plan_is most is =
+      let generation = allowed.correct.generation in
+      let number : q.fields.meta_seq ≡ most + 1 = allowed.correct.number ∙ is in
+      let prev = allowed.correct.prev in
+      ap (λ (r : ℕ × ℕ). plan_at q.index r most) follows_winner
+      ∙ simp (
+        lt-ltb i.generation (2 ^ 64 - 1) (omega (arith, generation, allowed.correct.generation_fits)),
+        lt-ltb most (2 ^ 64 - 1) (omega (arith, number, allowed.correct.number_fits)),
+      )
+      (ap₂ (λ (g : ℕ) (r : ℕ × ℕ). Ok (record { index = q.index; generation = g; prev_header_crc32c = r.0; meta_seq = r.1 })) (sym generation)
+      (ap₂ (λ (a b : ℕ). (a, b)) (sym prev) (sym number)))
+
+  numbers_meet : NumbersMeet (store w)
+  numbers_meet = subst NumbersMeet (pairs_row before t behind) (meet (before ++ t ∷ behind) state)
+
+  planned_free : named (store w) ≡ None → plan_write (frames (store w)) (length w.before) ≡ Ok (Some (plan_of w))
+  unfolding plan_write
+  planned_free none =
+      ap₂ (λ (e : Option JudgeError) (at : Option (List ℕ)). unless_refused e (plan_for at (highest (slots (row (frames (store w)))))))
+      (none_refused before t behind state) (at before t behind state)
+      ∙ ap (λ (row : List ShownPair). plan_for (Some (f before t behind state)) (highest (slots row))) (shows before t behind state)
+      ∙ ap (λ (next : Option SlotIndex). plan_next next (followed (frame_report (f before t behind state))) (highest (slots (shown (store w)))))
+      (next_is before t behind state (other q.index) i allowed.correct.won ∙ ap Some (other_other q.index))
+      ∙ ap some_plan (plan_is (highest (slots (shown (store w)))) (free_number allowed.turn none))
+
+  planned_healing : named (store w) ≡ Some (length w.before, w.index)
+      → plan_heal (frames (store w)) 0 ≡ Ok (Some (length w.before, plan_of w))
+  unfolding plan_heal
+  planned_healing is =
+      ap (λ (e : Option JudgeError). unless_refused e (heal_for (frames (store w)) (judgement (row (frames (store w))) false).heal))
+      (none_refused before t behind state)
+      ∙ ap (heal_for (frames (store w))) (ap (λ (row : List ShownPair). (judgement row false).heal) (shows before t behind state) ∙ is)
+      ∙ ap₂
+      (λ (at : Option (List ℕ)) (row : List ShownPair).
+      heal_in at (length (pairs before)) q.index (highest_other (place (length (pairs before)) q.index) (slots row)))
+      (at before t behind state) (shows before t behind state)
+      ∙ ap (with_pair (length (pairs before)))
+      (plan_is (highest_other (place (length (pairs before)) q.index) (slots (shown (store w))))
+      (healing_number allowed.turn is ∙ ap (λ (n : ℕ). n + 1) (sym (numbers_meet.healing (length (pairs before)) q.index is))))
+
+pub allowed_is_planned : AllowedIsPlanned
+allowed_is_planned before t behind q reached allowed =
+    record {
+      free = planned_free before t behind q (reached_state reached) allowed;
+      healing = planned_healing before t behind q (reached_state reached) allowed;
+    }
+
+-- ---- what is planned is a write of a history
+
+module _ (before : List Tracked) (t : Tracked) (behind : List Tracked) (plan : Plan) (owner compat : ℕ) (payload buffer : List ℕ) (tear : Tear)
+    (state : State (before ++ t ∷ behind))
+    (given : IsGiven (write_of (pairs before) t.pair (pairs behind) plan owner compat payload buffer tear)) where
+  abbrev written : Write
+  written = write_of (pairs before) t.pair (pairs behind) plan owner compat payload buffer tear
+
+  free_allowed : named (pairs (before ++ t ∷ behind)) ≡ None
+      → plan_write (frames (pairs (before ++ t ∷ behind))) (length before) ≡ Ok (Some plan)
+      → Allowed (write_of (pairs before) t.pair (pairs behind) plan owner compat payload buffer tear)
+  free_allowed none is =
+      let rests = (every_split before t behind (none_named state none)).1 in
+      record {
+        number = next_number_of (store written) t.pair;
+        turn = Turn.free (ap named (sym (pairs_row before t behind)) ∙ none);
+        correct =
+            planned_is_correct (pairs before) t.pair (pairs behind) (rests.x, rests.i) plan owner compat payload buffer tear
+            (numbered before t behind state)
+            (rested_stands (rested rests) (λ index number. true)).won
+            (ap₂ (λ (row : List Pair) (k : ℕ). plan_write (frames row) k) (sym (pairs_row before t behind)) (length_pairs before) ∙ is)
+            given.owner given.compat given.bytes given.accepted given.fits given.room;
+        unmarked = given.unmarked;
+      }
+
+  healing_allowed : plan_heal (frames (pairs (before ++ t ∷ behind))) 0 ≡ Ok (Some (length before, plan))
+      → Allowed (write_of (pairs before) t.pair (pairs behind) plan owner compat payload buffer tear)
+  healing_allowed is =
+      let known =
+      planned (frames (store written)) 0 (length (pairs before)) plan
+      (ap (λ (row : List Pair). plan_heal (frames row) 0) (sym (pairs_row before t behind))
+      ∙ is
+      ∙ ap (λ (k : ℕ). Ok (Some (k, plan))) (sym (length_pairs before))) in
+      let is_named : named (store written) ≡ Some (length (pairs before), plan.index) =
+      ap (λ (row : List ShownPair). (judgement row false).heal) (sym (shows before t behind state)) ∙ known.0 in
+      let here = one_named before t behind plan.index state is_named in
+      let won = (flies_stand here.fly (λ index number. true) refl refl).won in
+      let frame_is : known.1.0 ≡ f before t behind state = same_Some _ _ (sym known.1.1.0 ∙ at before t behind state) in
+      let most : ℕ = highest_other (place (length (pairs before)) plan.index) (slots (shown (store written))) in
+      let has : Has (Some plan.index) (here.fly.i.generation, here.fly.i.header_crc32c) most plan =
+      subst (λ (row : List ShownPair).
+      Has (Some plan.index) (here.fly.i.generation, here.fly.i.header_crc32c)
+      (highest_other (place (length (pairs before)) plan.index) (slots row)) plan)
+      (shows before t behind state)
+      (subst (λ (r : ℕ × ℕ). Has (Some plan.index) r (highest_other (place (length (pairs before)) plan.index) (slots (row (frames (store written))))) plan)
+      (ap (λ (g : List ℕ). followed (frame_report g)) frame_is ∙ follows before t behind state here.fly.x here.fly.i won) known.1.1.1) in
+      let meets = subst NumbersMeet (pairs_row before t behind) (meet (before ++ t ∷ behind) state) in
+      record {
+        number = heal_number_of (store written) t.pair;
+        turn = Turn.healing is_named;
+        correct =
+            subst (λ (n : ℕ). CorrectWith (n + 1) written) (meets.healing (length (pairs before)) plan.index is_named)
+            (given_correct (pairs before) t.pair (pairs behind) (here.fly.x, here.fly.i) plan owner compat payload buffer tear (Some plan.index) most won
+            (sym here.beside) has given.owner given.compat given.bytes given.accepted given.fits given.room);
+        unmarked = given.unmarked;
+      }
+
+pub free_plan_is_allowed : FreePlanIsAllowed
+free_plan_is_allowed before t behind plan owner compat payload buffer tear reached given =
+    free_allowed before t behind plan owner compat payload buffer tear (reached_state reached) given
+
+pub heal_plan_is_allowed : HealPlanIsAllowed
+heal_plan_is_allowed before t behind plan owner compat payload buffer tear reached given =
+    healing_allowed before t behind plan owner compat payload buffer tear (reached_state reached) given

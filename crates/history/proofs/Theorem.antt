@@ -1,0 +1,124 @@
+-- The theorem over histories: each step leads from a state to the next, and the volume record's mark stays false.
+use Rattle.std.proofs.Common.{◌≡◌, refl, sym, ap, subst, ◌∙◌, true, false, List, [], ◌∷◌, ◌++◌, ℕ, zero, suc, ◌≤◌, arith, length, map}
+use Rattle.std.specs.List.{IsAmong}
+use Rattle.slot.specs.Write.{header_crc}
+use Rattle.slot.specs.declared.slot.SlotInfo.{SlotInfo}
+use Rattle.judge.specs.declared.verdict.PairVerdict.{PairVerdict}
+use Rattle.cut.specs.Store.{Every, Pair, clean_mark, store_mark, Sound}
+use Rattle.cut.specs.Cut.{Write, new, left, is_empty}
+use Rattle.cut.proofs.StatusLaws.{false_true}
+use Rattle.cut.proofs.StatementLaws.{one_payload}
+use Rattle.cut.proofs.Theorem.{sound_pairs}
+use Rattle.history.specs.History.{Past, Tracked, past, past_after, pairs, started, HistoryAccident, HarmfulAccident, write_to, finished, torn_by, Reached, AllReadKnown, VolumeUnmarked, HistoryTheorem}
+use Rattle.history.specs.Laws.{KnownRecords, ReadIsKnown, AsWritten, LinkAtMost, OnlyTheWritten, HarmfulAlone, HarmfulIsAccident}
+use Rattle.history.proofs.States.{State, all_named, promised}
+use Rattle.history.proofs.Steps.{start_all, tracked_known, under_whole, under_kept, finish_state, finish_named, cut_state, cut_named}
+
+-- ---- the states that are reached
+
+sound_some : {ps : List Pair} → Sound ps → 1 ≤ length (map started ps)
+sound_some (Sound.row volume pages all) = omega arith
+
+pub reached_state : {ts : List Tracked} → Reached HarmfulAccident ts → State ts
+reached_state (Reached.start sound few unmarked) = State.all_rest (sound_some sound) (start_all (sound_pairs sound))
+reached_state (Reached.finish before t behind reached q allowed) = finish_state before t behind q (reached_state reached) allowed
+reached_state (Reached.cut before t behind reached q allowed possible none) =
+    cut_state before t behind q (reached_state reached) allowed possible none
+
+-- ---- the volume record's mark stays false
+
+abbrev Unmarked : List (List ℕ) → Type 0
+Unmarked known = Every (λ (r : List ℕ). clean_mark r ≡ false) known
+
+abbrev Marks : List Tracked → Type 0
+Marks [] = Unit {0}
+Marks (t ∷ ts) = Unmarked t.known
+
+among_unmarked : (known : List (List ℕ)) {r : List ℕ} → IsAmong known r → Unmarked known → clean_mark r ≡ false
+among_unmarked [] among Every.none = let none = among.1.0 in absurd (omega arith)
+among_unmarked (q ∷ known) (zero, place) (Every.more here rest) = ap clean_mark place.1 ∙ here
+among_unmarked (q ∷ known) (suc k, place) (Every.more here rest) = among_unmarked known (k, (let within = place.0 in omega arith, place.1)) rest
+
+start_marks : (ps : List Pair) → store_mark ps ≡ false → Marks (map started ps)
+start_marks [] unmarked = tt
+start_marks (p ∷ ps) unmarked = Every.more unmarked Every.none
+
+step_marks : (before : List Tracked) (t u : Tracked) (behind : List Tracked) → Marks (before ++ t ∷ behind)
+    → (is_empty (pairs before) ≡ true → Unmarked t.known → Unmarked u.known) → Marks (before ++ u ∷ behind)
+step_marks [] t u behind marks step = step refl marks
+step_marks (q ∷ before) t u behind marks step = marks
+
+reached_marks : {ts : List Tracked} → Reached HarmfulAccident ts → Marks ts
+reached_marks (Reached.start {ps} sound few unmarked) = start_marks ps unmarked
+reached_marks (Reached.finish before t behind reached q allowed) =
+    let w = write_to before t behind q in
+    step_marks before t (finished w t) behind (reached_marks reached)
+    (λ first marks. subst Unmarked (sym (tracked_known q.index _ _ (q.payload ∷ []) t)) (Every.more (allowed.unmarked first) Every.none))
+reached_marks (Reached.cut before t behind reached q allowed possible none) =
+    let w = write_to before t behind q in
+    step_marks before t (torn_by w t) behind (reached_marks reached)
+    (λ first marks. subst Unmarked (sym (tracked_known q.index _ _ (q.payload ∷ t.known) t)) (Every.more (allowed.unmarked first) marks))
+
+mark_read : {ts : List Tracked} {vs : List PairVerdict} → AllReadKnown ts vs → Marks ts → VolumeUnmarked (pairs ts)
+mark_read AllReadKnown.none marks = tt
+mark_read (AllReadKnown.more {t} known rest) marks =
+    λ r part. ap clean_mark (one_payload t.pair r known.payload part known.back.part) ∙ among_unmarked t.known known.known marks
+
+-- ---- what is known
+
+pub known_records : KnownRecords
+known_records =
+    record {
+      start = λ p. refl;
+      finish = λ w t. tracked_known w.index (new w) (record { under = w.payload; valid = new w }) (w.payload ∷ []) t;
+      cut = λ w t. tracked_known w.index (left w) (past_after w (past w.index t)) (w.payload ∷ t.known) t;
+    }
+
+pub read_is_known : ReadIsKnown
+read_is_known t v r known part = subst (IsAmong t.known) (one_payload t.pair known.payload r known.back.part part) known.known
+
+-- ---- what is no accident
+
+module _ (w : Write) (before : Past) where
+  link_at_most_of : (winner : SlotInfo) → AsWritten w before → HistoryAccident w before winner
+      → header_crc w.fields w.payload ≡ winner.prev_header_crc32c
+  link_at_most_of winner as_written (HistoryAccident.link is) = is
+  link_at_most_of winner (AsWritten.fails fails) (HistoryAccident.header other) = false_true fails other.passes
+  link_at_most_of winner (AsWritten.fails fails) (HistoryAccident.payload other) = false_true fails other.passes
+  link_at_most_of winner (AsWritten.kept not_new is stands) (HistoryAccident.header other) = absurd (other.not_old is)
+  link_at_most_of winner (AsWritten.kept not_new is stands) (HistoryAccident.payload other) =
+      absurd (other.other (stands ∙ sym (under_kept w before not_new is)))
+  link_at_most_of winner (AsWritten.whole is stands) (HistoryAccident.header other) = absurd (other.not_new is)
+  link_at_most_of winner (AsWritten.whole is stands) (HistoryAccident.payload other) = absurd (other.other (stands ∙ sym (under_whole w before is)))
+
+pub link_at_most : LinkAtMost
+link_at_most w before winner = link_at_most_of w before winner
+
+-- ---- the slot that is named
+
+pub only_the_written : OnlyTheWritten
+only_the_written =
+    record {
+      start = λ ps sound. all_named (sound_some sound) (start_all (sound_pairs sound));
+      finish = λ before t behind reached q allowed. finish_named before t behind q (reached_state reached) allowed;
+      cut = λ before t behind reached q allowed possible none. cut_named before t behind q (reached_state reached) allowed possible none;
+    }
+
+-- ---- the theorem
+
+pub harmful_alone : HarmfulAlone
+harmful_alone ts reached out room = promised ts (reached_state reached) out room (λ vs back. mark_read back (reached_marks reached))
+
+pub harmful_is_accident : HarmfulIsAccident
+harmful_is_accident w before winner (HarmfulAccident.header header not_valid) = HistoryAccident.header header
+harmful_is_accident w before winner (HarmfulAccident.payload payload) = HistoryAccident.payload payload
+
+fewer : {ts : List Tracked} → Reached HistoryAccident ts → Reached HarmfulAccident ts
+fewer (Reached.start sound few unmarked) = Reached.start sound few unmarked
+fewer (Reached.finish before t behind reached q allowed) = Reached.finish before t behind (fewer reached) q allowed
+fewer (Reached.cut before t behind reached q allowed possible none) =
+    Reached.cut before t behind (fewer reached) q allowed possible
+    (λ accident. none (harmful_is_accident (write_to before t behind q) (past q.index t) allowed.correct.winner accident))
+
+pub history_theorem : HistoryTheorem
+history_theorem ts reached = harmful_alone ts (fewer reached)

@@ -1,0 +1,50 @@
+// The theorem over histories. What it says stands in specs/History.antt; specs/Laws.antt holds its words, its numbers and the plans of its
+// writes to what they mean. A function without code does nothing: its contract is the theorem, or the laws.
+#![tactic(auto)]
+
+ghost use Rattle.history.specs.History.{HistoryTheorem};
+ghost use Rattle.history.specs.Laws.{KnownRecords, ReadIsKnown, LinkAtMost, HarmfulAlone, HarmfulIsAccident, OnlyTheWritten, NumbersAnswered, NumbersOfHistory, AllowedIsPlanned, FreePlanIsAllowed, HealPlanIsAllowed};
+
+pub fn history_theorem()
+    ensures { HistoryTheorem }
+{}
+
+// Which records are known, and that what is read is one of them.
+#[tactic(auto, using(crate::proofs::Theorem::known_records))]
+pub fn known()
+    ensures records { KnownRecords }
+    ensures read { ReadIsKnown }
+{}
+
+// What is no accident.
+pub fn no_accident()
+    ensures { LinkAtMost }
+{}
+
+// Of its accidents one kind is not needed, and a header that stands again does no harm.
+#[tactic(auto, using(crate::proofs::Theorem::harmful_alone, crate::proofs::Theorem::harmful_is_accident))]
+pub fn harmful_accidents()
+    ensures alone { HarmfulAlone }
+    ensures among { HarmfulIsAccident }
+{}
+
+// Which slot is named after each of its writes.
+#[tactic(auto, using(crate::proofs::Theorem::only_the_written))]
+pub fn named_slot()
+    ensures { OnlyTheWritten }
+{}
+
+// The numbers of its writes are those that `next_number` and `heal_number` answer, and a winner has the highest.
+#[tactic(auto, using(crate::proofs::PlanLaws::numbers_answered, crate::proofs::PlanLaws::numbers_of_history))]
+pub fn numbers()
+    ensures answered { NumbersAnswered }
+    ensures highest { NumbersOfHistory }
+{}
+
+// `plan_write` and `plan_heal` give its writes, and what they give is one of its writes.
+#[tactic(auto, using(crate::proofs::PlanLaws::allowed_is_planned))]
+pub fn plans()
+    ensures planned { AllowedIsPlanned }
+    ensures free { FreePlanIsAllowed }
+    ensures healing { HealPlanIsAllowed }
+{}
