@@ -19,7 +19,7 @@ use Rattle.cut.specs.Store.{Decoder, Slot, Pair, slot_at, accepts, slot_read, fr
 use Rattle.cut.specs.Cut.{Write, left, with_bytes, after, handed, PayloadIs}
 use Rattle.cut.proofs.PairLaws.{won_payload}
 use Rattle.cut_examples.specs.Stores.{rest}
-use Rattle.cut_examples.specs.Computed.{AllRead, Computed}
+use Rattle.cut_examples.specs.Computed.{AllRead, JudgedAs, Computed}
 
 -- ---- slots as they are read
 
@@ -107,6 +107,15 @@ row_back : {ps : List Pair} {xs : List PairRead} {rs : List (List ℕ)} → RowR
 row_back none = AllRead.none
 row_back (more pair row) = AllRead.more pair.back pair.accepted (row_back row)
 
+-- What is judged and read back where the slots of the pairs are read as xs.
+pub judged_row : {ps : List Pair} (s : Slot) {given : Bool} {slot : SlotRead} {xs : List PairRead} {rs : List (List ℕ)} {heal : Option (ℕ × SlotIndex)} {clean : Bool} {verdict : List ℕ}
+    → slot_read s ≡ slot → RowRecords ps xs rs
+    → judge_frames (frames_of (framed_row xs)) (mark given) 12 ≡ Ok (record { heal = heal; writable = true; clean = clean; refused = false })
+    → frames_left (frames_of (framed_row xs)) (mark given) (replicate 12 0) ≡ verdict
+    → JudgedAs ps s given slot heal clean verdict rs
+judged_row s read row answer written =
+    record { read = read; answer = rw (row_framed row) answer; written = rw (row_framed row) written; back = row_back row }
+
 pub computed_row : (w : Write) {slot : SlotRead} {xs : List PairRead} {rs : List (List ℕ)} {clean_mark : Bool} {heal : Option (ℕ × SlotIndex)} {clean : Bool} {verdict : List ℕ}
     → slot_read (with_bytes (left w) (slot_at w.index w.pair)) ≡ slot
     → RowRecords (after w) xs rs → handed w ≡ clean_mark
@@ -114,4 +123,4 @@ pub computed_row : (w : Write) {slot : SlotRead} {xs : List PairRead} {rs : List
     → frames_left (frames_of (framed_row xs)) (mark clean_mark) (replicate 12 0) ≡ verdict
     → Computed w slot heal clean verdict rs
 computed_row w read row mark_is answer written =
-    record { read = read; answer = rw (row_framed row, mark_is) answer; written = rw (row_framed row, mark_is) written; back = row_back row }
+    rw mark_is (judged_row (with_bytes (left w) (slot_at w.index w.pair)) read row answer written)

@@ -1,4 +1,5 @@
--- What is judged and read back after a cut (docs/FORMAT.md, "The sound store and the cut"), and how a slot is read.
+-- What is judged of a store and read back, after a cut (docs/FORMAT.md, "The sound store and the cut") and in any other state, and how a
+-- slot is read.
 use Rattle.std.specs.Prelude.{◌≡◌, Bool, true, false, List, [], ◌∷◌, ℕ, replicate, Option, Some, None, Ok}
 use Rattle.slot.specs.declared.slot.SlotIndex.{SlotIndex}
 use Rattle.slot.specs.declared.slot.SlotStatus.{SlotStatus}
@@ -6,7 +7,7 @@ use Rattle.slot.specs.declared.slot.HeaderFacts.{HeaderFacts}
 use Rattle.judge.specs.Frames.{judge_frames, frames_left}
 use Rattle.judge.specs.Same.{mark}
 use Rattle.judge.specs.declared.records.SlotRead.{SlotRead}
-use Rattle.cut.specs.Store.{Pair, slot_at, accepts, frames, slot_read}
+use Rattle.cut.specs.Store.{Slot, Pair, slot_at, accepts, frames, slot_read}
 use Rattle.cut.specs.Cut.{Write, left, with_bytes, after, handed, PayloadIs}
 
 -- ---- what is computed
@@ -17,14 +18,18 @@ pub data AllRead : List Pair → List (List ℕ) → Type 0 where
   more : {p : Pair} {ps : List Pair} {r : List ℕ} {rs : List (List ℕ)}
       → PayloadIs p r → accepts p.decoder r ≡ true → AllRead ps rs → AllRead (p ∷ ps) (r ∷ rs)
 
--- After the cut of w the written slot is read so; the judge answers this heal and this clean mark, writable and not refused, and writes
--- these verdicts, four bytes a pair: standing, winner, A, B; and these records are read back.
-pub record Computed (w : Write) (slot : SlotRead) (heal : Option (ℕ × SlotIndex)) (clean : Bool) (verdict : List ℕ) (records : List (List ℕ)) : Type 0 where
-  pub read : slot_read (with_bytes (left w) (slot_at w.index w.pair)) ≡ slot
-  pub answer : judge_frames (frames (after w)) (mark (handed w)) 12
-      ≡ Ok (record { heal = heal; writable = true; clean = clean; refused = false })
-  pub written : frames_left (frames (after w)) (mark (handed w)) (replicate 12 0) ≡ verdict
-  pub back : AllRead (after w) records
+-- Of three pairs one slot is read so; the judge, handed this mark, answers this heal and this clean mark, writable and not refused, and
+-- writes these verdicts, four bytes a pair: standing, winner, A, B; and these records are read back.
+pub record JudgedAs (ps : List Pair) (s : Slot) (given : Bool) (slot : SlotRead) (heal : Option (ℕ × SlotIndex)) (clean : Bool) (verdict : List ℕ) (records : List (List ℕ)) : Type 0 where
+  pub read : slot_read s ≡ slot
+  pub answer : judge_frames (frames ps) (mark given) 12 ≡ Ok (record { heal = heal; writable = true; clean = clean; refused = false })
+  pub written : frames_left (frames ps) (mark given) (replicate 12 0) ≡ verdict
+  pub back : AllRead ps records
+
+-- After the cut of w: the slot is the written one, and the mark is the one that is handed then.
+abbrev pub Computed : Write → SlotRead → Option (ℕ × SlotIndex) → Bool → List ℕ → List (List ℕ) → Type 0
+Computed w slot heal clean verdict records =
+    JudgedAs (after w) (with_bytes (left w) (slot_at w.index w.pair)) (handed w) slot heal clean verdict records
 
 -- ---- how a slot is read
 
