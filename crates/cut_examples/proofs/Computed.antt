@@ -19,25 +19,25 @@ use Rattle.judge.specs.declared.records.SlotRead.{SlotRead}
 use Rattle.judge.specs.declared.records.PairRead.{PairRead}
 use Rattle.meta.specs.Volume.{volume_bytes}
 use Rattle.meta.specs.Page.{header_bytes as page_header_bytes}
-use Rattle.cut.specs.Store.{Every, Volume, Page, Pair, accepts, clean_mark, slot_at, slot_read}
+use Rattle.cut.specs.Store.{Every, Volume, Page, Slot, Pair, accepts, clean_mark, slot_at, slot_read}
 use Rattle.cut.specs.Cut.{Tear, Write, cut, left, with_bytes, with_slot, stands_whole}
 use Rattle.cut.proofs.StatementLaws.{page_handed}
 use Rattle.cut_examples.specs.Stores.{volume_record, page_record, zeros_for, volume_fields, volume_pair, first_page, second_fields, second_page, later_page}
 use Rattle.cut_examples.specs.Writes.{write_to, page_write, volume_write, second_write, later_write}
 use Rattle.cut_examples.proofs.Writes.{summed_slot, summed_is, none_refused, volume_sum, second_sum, volume_handed, old_page, new_page, blank_bytes, marked_bytes, next_page, newer_slot, later_slot, old_page_is, new_page_is, marked_bytes_is, next_page_is, newer_slot_is, later_slot_is, page_accepted, volume_accepted}
-use Rattle.cut_examples.specs.Computed.{Computed, blank_read, bad_magic, torn_header, torn_payload, valid_read}
+use Rattle.cut_examples.specs.Computed.{JudgedAs, Computed, blank_read, bad_magic, torn_header, torn_payload, valid_read}
 use Rattle.cut_examples.specs.Cuts.{old_records, older_read, torn_page, new_read, PageCuts, torn_volume, marked_read, VolumeCuts, damaged_volume, MagicCuts, OtherCuts}
-use Rattle.cut_examples.proofs.SlotsRead.{PairRecord, more, none, read_once, read_once_is, framed_row, pair_record, computed_row}
+use Rattle.cut_examples.proofs.SlotsRead.{PairRecord, more, none, read_once, read_once_is, framed_row, pair_record, judged_row, computed_row}
 
 -- ---- the slots that are not written, as they are read
 
-abbrev volume_read : SlotRead
+abbrev pub volume_read : SlotRead
 volume_read = valid_read 1 1 0x1d15_7c74 0 64
 
-abbrev newer_read : SlotRead
+abbrev pub newer_read : SlotRead
 newer_read = valid_read 2 4 0xe83c_e718 0x588e_9174 24
 
-abbrev second_read : SlotRead
+abbrev pub second_read : SlotRead
 second_read = valid_read 1 3 0x2c8c_2a3c 0 24
 
 -- With their checksums as numbers.
@@ -59,7 +59,7 @@ second_slot_is : (encode second_fields (page_record 1 0) (zeros_for second_field
 second_slot_is = summed_is second_fields (page_record 1 0) 0x2c8c_2a3c 0x3eb4_2e60 none_refused.3 second_sum payload_sums.1
 
 -- Each as it is read.
-slots_read : (read_once volume_slot volume_pair.a.expect ≡ volume_read) × (read_once blank_bytes volume_pair.b.expect ≡ blank_read)
+pub slots_read : (read_once volume_slot volume_pair.a.expect ≡ volume_read) × (read_once blank_bytes volume_pair.b.expect ≡ blank_read)
     × (read_once old_page first_page.a.expect ≡ older_read) × (read_once newer_slot first_page.b.expect ≡ newer_read)
     × (read_once second_slot second_page.a.expect ≡ second_read) × (read_once blank_bytes second_page.b.expect ≡ blank_read)
     × (read_once new_page later_page.a.expect ≡ new_read)
@@ -72,21 +72,27 @@ unfolding cut header_bytes page_header_bytes
 page_ends = (slots_read.2, slots_read.6)
 
 -- The pairs of them, with their records.
-volume_pair_read : PairRecord volume_pair (record { a = volume_read; b = blank_read }) (volume_record false)
+pub volume_pair_read : PairRecord volume_pair (record { a = volume_read; b = blank_read }) (volume_record false)
 unfolding payload_of header_bytes volume_bytes decide
 volume_pair_read =
     rw volume_slot_is
     (pair_record volume_slot blank_bytes volume_pair.a.expect volume_pair.b.expect Volume (record { a = volume_read; b = blank_read })
     (volume_record false) slots_read.0 slots_read.1 refl refl volume_accepted.0)
 
-first_page_read : PairRecord first_page (record { a = older_read; b = newer_read }) (page_record 0 2)
-unfolding payload_of header_bytes page_header_bytes decide
-first_page_read =
-    rw (old_page_is, newer_slot_is)
-    (pair_record old_page newer_slot first_page.a.expect first_page.b.expect (Page 0 41) (record { a = older_read; b = newer_read })
-    (page_record 0 2) slots_read.2 slots_read.3 refl refl page_accepted.1)
+-- The first page with the bytes s in its slot A, which are read as x.
+pub first_with : (s : List ℕ) (x : SlotRead) → read_once s first_page.a.expect ≡ x
+    → {index : SlotIndex} {i : SlotInfo} → winner_info (decide x.status newer_read.status) ≡ Some (index, i)
+    → {r : List ℕ} → payload_of i (by_index index s newer_slot) ≡ r → accepts (Page 0 41) r ≡ true
+    → PairRecord (with_slot SlotIndex.A s first_page) (record { a = x; b = newer_read }) r
+first_with s x read won {r} back accepted =
+    rw newer_slot_is
+    (pair_record s newer_slot first_page.a.expect first_page.b.expect (Page 0 41) (record { a = x; b = newer_read }) r read slots_read.3 won back accepted)
 
-second_page_read : PairRecord second_page (record { a = second_read; b = blank_read }) (page_record 1 0)
+pub first_page_read : PairRecord first_page (record { a = older_read; b = newer_read }) (page_record 0 2)
+unfolding payload_of header_bytes page_header_bytes decide
+first_page_read = rw old_page_is (first_with old_page older_read slots_read.2 refl refl page_accepted.1)
+
+pub second_page_read : PairRecord second_page (record { a = second_read; b = blank_read }) (page_record 1 0)
 unfolding payload_of header_bytes page_header_bytes decide
 second_page_read =
     rw second_slot_is
@@ -104,7 +110,15 @@ pub record Written (w : Write) (slot : SlotRead) (x : PairRead) (r : List ℕ) :
 abbrev pub row_with : PairRead → List ℕ
 row_with x = frames_of (framed_row (record { a = volume_read; b = blank_read } ∷ x ∷ record { a = second_read; b = blank_read } ∷ []))
 
--- and what is judged of them and read back.
+-- and what is judged of them and read back, where the judge is handed false;
+pub judged_with : {p : Pair} (s : Slot) {slot : SlotRead} {x : PairRead} {r : List ℕ} → slot_read s ≡ slot → PairRecord p x r
+    → {heal : Option (ℕ × SlotIndex)} {verdict : List ℕ}
+    → judge_frames (row_with x) 0 12 ≡ Ok (record { heal = heal; writable = true; clean = false; refused = false })
+    → frames_left (row_with x) 0 (replicate 12 0) ≡ verdict
+    → JudgedAs (volume_pair ∷ p ∷ second_page ∷ []) s false slot heal false verdict (volume_record false ∷ r ∷ page_record 1 0 ∷ [])
+judged_with s read pair = judged_row s read (more volume_pair_read (more pair (more second_page_read none)))
+
+-- as it is after a write to a page.
 pub page_at : {p : Pair} {f : SlotFields} {payload : List ℕ} {tear : Tear} {slot : SlotRead} {x : PairRead} {r : List ℕ}
     → Written (write_to (volume_pair ∷ []) p (second_page ∷ []) f payload tear) slot x r
     → {heal : Option (ℕ × SlotIndex)} {verdict : List ℕ}
@@ -113,8 +127,7 @@ pub page_at : {p : Pair} {f : SlotFields} {payload : List ℕ} {tear : Tear} {sl
     → Computed (write_to (volume_pair ∷ []) p (second_page ∷ []) f payload tear) slot heal false verdict (volume_record false ∷ r ∷ page_record 1 0 ∷ [])
 page_at {p} {f} {payload} {tear} written =
     let w = write_to (volume_pair ∷ []) p (second_page ∷ []) f payload tear in
-    computed_row w {clean_mark = false} written.slot_is (more volume_pair_read (more written.pair_is (more second_page_read none)))
-    (page_handed w volume_pair [] refl)
+    rw (page_handed w volume_pair [] refl) (judged_with (with_bytes (left w) (slot_at w.index w.pair)) written.slot_is written.pair_is)
 
 -- The page's slot A after k bytes is read as x.
 page_read : (k : ℕ) (x : SlotRead) → read_once (cut k new_page old_page) first_page.a.expect ≡ x
@@ -124,10 +137,7 @@ page_read : (k : ℕ) (x : SlotRead) → read_once (cut k new_page old_page) fir
 page_read k x read won {r} back accepted =
     record {
       slot_is = rw (new_page_is, old_page_is) (read_once_is (cut k new_page old_page) first_page.a.expect ∙ read);
-      pair_is =
-          rw (new_page_is, old_page_is, newer_slot_is)
-          (pair_record (cut k new_page old_page) newer_slot first_page.a.expect first_page.b.expect (Page 0 41) (record { a = x; b = newer_read }) r
-          read slots_read.3 won back accepted);
+      pair_is = rw (new_page_is, old_page_is) (first_with (cut k new_page old_page) x read won back accepted);
     }
 
 -- The volume record's slot B after k bytes is read as x, and the judge is handed the mark.

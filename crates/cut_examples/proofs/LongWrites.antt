@@ -18,15 +18,15 @@ use Rattle.judge.specs.declared.records.SlotRead.{SlotRead}
 use Rattle.meta.specs.Entry.{entry_bytes}
 use Rattle.meta.specs.Page.{header_at, decode_page, entries, header_bytes as page_header_bytes, page_bytes}
 use Rattle.cut.specs.Store.{Every, Page, accepts, SoundPair, Sound}
-use Rattle.cut.specs.Cut.{Sectors, by_sector, torn, CorrectWrite, stands_whole, whole}
+use Rattle.cut.specs.Cut.{Sectors, with_slot, by_sector, torn, CorrectWrite, stands_whole, whole}
 use Rattle.cut.proofs.ByteLaws.{bytes_tested}
 use Rattle.cut.proofs.StateLaws.{sound_won}
 use Rattle.cut_examples.specs.Stores.{long_record, zeros_for, volume_pair, second_page, long_older_fields, long_newer_fields, long_page, long_store}
 use Rattle.cut_examples.specs.Writes.{IsMet, StoresSound, long_fields, long_write, neither, the_first, the_second, both, LongMet, LongWhole}
 use Rattle.cut_examples.specs.Computed.{torn_payload, valid_read}
 use Rattle.cut_examples.specs.Cuts.{SectorCuts}
-use Rattle.cut_examples.proofs.Writes.{Known, fields_fit, written_known, both_written, sound, later_store_sound, sound_with, unmarked_with, highest_with, tear_tests, met_by, write_correct, summed_slot, summed_is}
-use Rattle.cut_examples.proofs.SlotsRead.{read_once, read_once_is, pair_record}
+use Rattle.cut_examples.proofs.Writes.{Known, fields_fit, written_known, both_written, sound, later_store_sound, sound_with, unmarked_with, highest_with, tear_tests, met_by, write_correct, one_above, summed_slot, summed_is}
+use Rattle.cut_examples.proofs.SlotsRead.{PairRecord, read_once, read_once_is, pair_record}
 use Rattle.cut_examples.proofs.Computed.{Written, page_at}
 
 -- ---- the records and the slots
@@ -34,17 +34,17 @@ use Rattle.cut_examples.proofs.Computed.{Written, page_at}
 abbrev older_record : List ℕ
 older_record = long_record 0x2_0000 2
 
-abbrev newer_record : List ℕ
+abbrev pub newer_record : List ℕ
 newer_record = long_record 0x2_4000 4
 
-abbrev new_record : List ℕ
+abbrev pub new_record : List ℕ
 new_record = long_record 0x2_8000 5
 
-record_bytes : AllBytes older_record × AllBytes newer_record × AllBytes new_record
+pub record_bytes : AllBytes older_record × AllBytes newer_record × AllBytes new_record
 unfolding page_bytes page_header_bytes entry_bytes
 record_bytes = (bytes_tested older_record refl, bytes_tested newer_record refl, bytes_tested new_record refl)
 
-accepted : (accepts (Page 0 41) older_record ≡ true) × (accepts (Page 0 41) newer_record ≡ true) × (accepts (Page 0 41) new_record ≡ true)
+pub accepted : (accepts (Page 0 41) older_record ≡ true) × (accepts (Page 0 41) newer_record ≡ true) × (accepts (Page 0 41) new_record ≡ true)
 unfolding page_bytes page_header_bytes entry_bytes decode_page header_at entries le
 accepted = (refl, refl, refl)
 
@@ -52,7 +52,7 @@ sums : (crc32c older_record ≡ 0x672f_0c46) × (crc32c newer_record ≡ 0x43bd_
 unfolding page_bytes page_header_bytes entry_bytes crc32c final_remainder remainder digest reversed
 sums = (refl, refl, refl)
 
-header_sums : (header_crc long_older_fields older_record ≡ 0x3b80_d549) × (header_crc long_newer_fields newer_record ≡ 0xd7d6_5030)
+pub header_sums : (header_crc long_older_fields older_record ≡ 0x3b80_d549) × (header_crc long_newer_fields newer_record ≡ 0xd7d6_5030)
     × (header_crc long_fields new_record ≡ 0x4d45_7736)
 unfolding header_crc header_bytes page_bytes page_header_bytes entry_bytes crc32c final_remainder remainder digest reversed
 header_sums = (refl, refl, refl)
@@ -68,57 +68,57 @@ older_fits = fields_fit 10 3 SlotIndex.A 1 0 2 (lit< tt) (lit< tt) (lit< tt) (li
 newer_fits : Fits long_newer_fields
 newer_fits = fields_fit 10 3 SlotIndex.B 2 0x3b80_d549 4 (lit< tt) (lit< tt) (lit< tt) (lit< tt) (lit< tt) (lit< tt)
 
-new_fits : Fits long_fields
+pub new_fits : Fits long_fields
 new_fits = fields_fit 10 3 SlotIndex.A 3 0xd7d6_5030 5 (lit< tt) (lit< tt) (lit< tt) (lit< tt) (lit< tt) (lit< tt)
 
-older_known : Known long_older_fields older_record (Page 0 41)
+pub older_known : Known long_older_fields older_record (Page 0 41)
 older_known = written_known 10 3 SlotIndex.A 1 0 2 older_fits older_record record_bytes.0 none_refused.0 refl (Page 0 41) accepted.0
 
-newer_known : Known long_newer_fields newer_record (Page 0 41)
+pub newer_known : Known long_newer_fields newer_record (Page 0 41)
 newer_known = written_known 10 3 SlotIndex.B 2 0x3b80_d549 4 newer_fits newer_record record_bytes.1 none_refused.1 refl (Page 0 41) accepted.1
 
 -- With their checksums as numbers.
 
-abbrev older_slot : List ℕ
+abbrev pub older_slot : List ℕ
 older_slot = summed_slot 0x3b80_d549 0x672f_0c46 long_older_fields older_record
 
 abbrev newer_slot : List ℕ
 newer_slot = summed_slot 0xd7d6_5030 0x43bd_9a4c long_newer_fields newer_record
 
-abbrev new_slot : List ℕ
+abbrev pub new_slot : List ℕ
 new_slot = summed_slot 0x4d45_7736 0xb775_a3e1 long_fields new_record
 
-older_slot_is : (encode long_older_fields older_record (zeros_for long_older_fields)).0 ≡ older_slot
+pub older_slot_is : (encode long_older_fields older_record (zeros_for long_older_fields)).0 ≡ older_slot
 older_slot_is = summed_is long_older_fields older_record 0x3b80_d549 0x672f_0c46 none_refused.0 header_sums.0 sums.0
 
 newer_slot_is : (encode long_newer_fields newer_record (zeros_for long_newer_fields)).0 ≡ newer_slot
 newer_slot_is = summed_is long_newer_fields newer_record 0xd7d6_5030 0x43bd_9a4c none_refused.1 header_sums.1 sums.1
 
-new_slot_is : (encode long_fields new_record (zeros_for long_fields)).0 ≡ new_slot
+pub new_slot_is : (encode long_fields new_record (zeros_for long_fields)).0 ≡ new_slot
 new_slot_is = summed_is long_fields new_record 0x4d45_7736 0xb775_a3e1 none_refused.2 header_sums.2 sums.2
 
 -- ---- the store and the write
 
-unfoldable long_sound : SoundPair long_page
+unfoldable pub long_sound : SoundPair long_page
 unfolding both_written
 long_sound = both_written older_known newer_known refl (lit< tt) (sym header_sums.0)
 
-long_store_sound : Sound long_store
+pub long_store_sound : Sound long_store
 long_store_sound = sound_with long_page refl long_sound
 
 pub stores_sound : StoresSound
 stores_sound = (sound, later_store_sound, long_store_sound)
 
-record_fits : 128 + length new_record ≤ 1024
+pub record_fits : 128 + length new_record ≤ 1024
 unfolding page_bytes page_header_bytes entry_bytes
 record_fits = lit≤ tt
 
 long_correct : (reached : ℕ → Bool) → CorrectWrite (long_write reached)
 unfolding long_sound both_written
 long_correct reached =
-    write_correct (volume_pair ∷ []) long_page (second_page ∷ [])
-    (highest_with long_page (info_of long_older_fields older_record) (info_of long_newer_fields newer_record) older_known.valid newer_known.valid)
-    long_fields new_fits refl refl refl
+    write_correct (volume_pair ∷ []) long_page (second_page ∷ []) long_fields new_fits refl refl
+    (one_above
+    (highest_with long_page (info_of long_older_fields older_record) (info_of long_newer_fields newer_record) older_known.valid newer_known.valid))
     (info_of long_newer_fields newer_record) (sound_won long_page long_sound) refl (sym header_sums.1) new_record record_bytes.2 accepted.2
     record_fits (Sectors reached)
 
@@ -143,14 +143,23 @@ long_whole = (whole_of the_first, whole_of the_second, whole_of both)
 
 -- ---- as they are read
 
-abbrev newer_read : SlotRead
+abbrev pub newer_read : SlotRead
 newer_read = valid_read 2 4 0xd7d6_5030 0x3b80_d549 408
 
 newer_is : read_once newer_slot long_page.b.expect ≡ newer_read
 unfolding is_slot_length check passes_checksum is_malformed passes_payload payload_of header_sum header_bytes page_bytes page_header_bytes entry_bytes le crc32c final_remainder remainder digest reversed
 newer_is = refl
 
--- Slot A with these sectors new is read as x.
+-- The pair with the bytes s in its slot A, which are read as x.
+pub long_with : (s : List ℕ) (x : SlotRead) → read_once s long_page.a.expect ≡ x
+    → {index : SlotIndex} {i : SlotInfo} → winner_info (decide x.status newer_read.status) ≡ Some (index, i)
+    → {r : List ℕ} → payload_of i (by_index index s newer_slot) ≡ r → accepts (Page 0 41) r ≡ true
+    → PairRecord (with_slot SlotIndex.A s long_page) (record { a = x; b = newer_read }) r
+long_with s x read won {r} back takes =
+    rw newer_slot_is
+    (pair_record s newer_slot long_page.a.expect long_page.b.expect (Page 0 41) (record { a = x; b = newer_read }) r read newer_is won back takes)
+
+-- With these sectors new.
 long_read : (reached : ℕ → Bool) (x : SlotRead) → read_once (torn (Sectors reached) new_slot older_slot) long_page.a.expect ≡ x
     → {index : SlotIndex} {i : SlotInfo} → winner_info (decide x.status newer_read.status) ≡ Some (index, i)
     → {r : List ℕ} → payload_of i (by_index index (torn (Sectors reached) new_slot older_slot) newer_slot) ≡ r → accepts (Page 0 41) r ≡ true
@@ -158,10 +167,7 @@ long_read : (reached : ℕ → Bool) (x : SlotRead) → read_once (torn (Sectors
 long_read reached x read won {r} back takes =
     record {
       slot_is = rw (new_slot_is, older_slot_is) (read_once_is (torn (Sectors reached) new_slot older_slot) long_page.a.expect ∙ read);
-      pair_is =
-          rw (new_slot_is, older_slot_is, newer_slot_is)
-          (pair_record (torn (Sectors reached) new_slot older_slot) newer_slot long_page.a.expect long_page.b.expect (Page 0 41)
-          (record { a = x; b = newer_read }) r read newer_is won back takes);
+      pair_is = rw (new_slot_is, older_slot_is) (long_with (torn (Sectors reached) new_slot older_slot) x read won back takes);
     }
 
 pub long_computed : SectorCuts

@@ -99,7 +99,7 @@ pair_record a b expect_a expect_b decoder x r a_is b_is {index} {i} won back acc
     bytes_at SlotIndex.A i = refl
     bytes_at SlotIndex.B i = refl
 
-row_framed : {ps : List Pair} {xs : List PairRead} {rs : List (List ℕ)} → RowRecords ps xs rs → framed ps ≡ framed_row xs
+pub row_framed : {ps : List Pair} {xs : List PairRead} {rs : List (List ℕ)} → RowRecords ps xs rs → framed ps ≡ framed_row xs
 row_framed none = refl
 row_framed (more pair row) = ap₂ (λ (f : Framed) (others : List Framed). f ∷ others) pair.read (row_framed row)
 

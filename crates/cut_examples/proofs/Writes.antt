@@ -25,7 +25,7 @@ use Rattle.meta.specs.Base.{base_at, check_base}
 use Rattle.meta.specs.Volume.{tail_at, check_tail, check_volume, decode_volume, volume_bytes as volume_record_bytes}
 use Rattle.meta.specs.Page.{header_at, decode_page, entries, header_row as page_header_row, header_bytes as page_header_bytes}
 use Rattle.cut.specs.Store.{Every, Decoder, Volume, Page, accepts, clean_mark, Pair, slot_at, status, report, shown, store_mark, Typed, SoundSlot, Beside, SoundPair, Sound}
-use Rattle.cut.specs.Cut.{Tear, Ascending, Sectors, Write, store, size, old, new, cut, torn, CutPoint, Possible, CorrectWrite, stands_whole, whole, payload_in, Accident, payload_by, SectorAccident, AccidentBy, handed}
+use Rattle.cut.specs.Cut.{Tear, Ascending, Sectors, Write, store, size, old, new, cut, torn, CutPoint, Possible, CorrectWith, CorrectWrite, stands_whole, whole, payload_in, Accident, payload_by, SectorAccident, AccidentBy, handed}
 use Rattle.cut_examples.specs.Stores.{volume_record, page_record, rest, fields, read_with, zeros_for, written_slot, blank_slot, volume_fields, volume_pair, older_fields, newer_fields, first_page, second_fields, second_page, new_fields, later_page, first_store, later_store}
 use Rattle.cut_examples.specs.Writes.{IsMet, MetIsEnough, write_to, page_write, marked_fields, volume_write, next_fields, second_write, later_fields, later_write, PageMet, VolumeMet, SecondMet, LaterMet, StandsWhole, MarkHanded}
 use Rattle.cut.proofs.ByteLaws.{bytes_tested, row_bytes, slot_all_bytes}
@@ -129,13 +129,13 @@ pub volume_accepted : (accepts Volume (volume_record false) ≡ true) × (accept
 unfolding volume_record_bytes decode_volume base_at tail_at check_volume check_base check_tail entries_per_page block_size le
 volume_accepted = (refl, refl, refl)
 
-page_bytes : (index next : ℕ) → AllBytes (page_record index next)
+pub page_bytes : (index next : ℕ) → AllBytes (page_record index next)
 unfolding page_header_bytes
 page_bytes index next =
     row_bytes (page_header_row (record { page_index = index; next_seq = next; count = 0 }))
     (number_bytes 0 4 index, (number_bytes 0 4 next, (number_bytes 0 2 0, (zero-bytes 14, tt))))
 
-page_fits : (index next : ℕ) → 128 + length (page_record index next) ≤ 512
+pub page_fits : (index next : ℕ) → 128 + length (page_record index next) ≤ 512
 unfolding page_header_bytes
 page_fits index next = lit≤ tt
 
@@ -148,11 +148,11 @@ page_accepted = (refl, refl, refl, refl, refl, refl)
 -- ---- the store
 
 -- The checksums of the first page's headers and payloads.
-older_sums : (header_crc older_fields (page_record 0 1) ≡ 0x588e_9174) × (crc32c (page_record 0 1) ≡ 0xb3b8_1b53)
+pub older_sums : (header_crc older_fields (page_record 0 1) ≡ 0x588e_9174) × (crc32c (page_record 0 1) ≡ 0xb3b8_1b53)
 unfolding header_crc header_bytes page_header_bytes crc32c final_remainder remainder digest reversed
 older_sums = (refl, refl)
 
-newer_sums : (header_crc newer_fields (page_record 0 2) ≡ 0xe83c_e718) × (crc32c (page_record 0 2) ≡ 0xea7c_0394)
+pub newer_sums : (header_crc newer_fields (page_record 0 2) ≡ 0xe83c_e718) × (crc32c (page_record 0 2) ≡ 0xea7c_0394)
 unfolding header_crc header_bytes page_header_bytes crc32c final_remainder remainder digest reversed
 newer_sums = (refl, refl)
 
@@ -185,12 +185,12 @@ volume_known =
     written_known 9 0 SlotIndex.A 1 0 1 volume_fits (volume_record false) volume_bytes.0 none_refused.0 numbers_ok.0 Volume
     volume_accepted.0
 
-older_known : Known older_fields (page_record 0 1) (Page 0 41)
+pub older_known : Known older_fields (page_record 0 1) (Page 0 41)
 older_known =
     written_known 9 1 SlotIndex.A 1 0 2 older_fits (page_record 0 1) (page_bytes 0 1) none_refused.1 numbers_ok.1
     (Page 0 41) page_accepted.0
 
-newer_known : Known newer_fields (page_record 0 2) (Page 0 41)
+pub newer_known : Known newer_fields (page_record 0 2) (Page 0 41)
 newer_known =
     written_known 9 1 SlotIndex.B 2 0x588e_9174 4 newer_fits (page_record 0 2) (page_bytes 0 2) none_refused.2
     numbers_ok.3 (Page 0 41) page_accepted.1
@@ -231,7 +231,7 @@ both_written {a} {b} {older} {newer} older_known newer_known next higher linked 
       beside = Beside.both (info_of a older) older_known.valid next higher linked older_known.accepted;
     }
 
-unfoldable first_sound : SoundPair first_page
+unfoldable pub first_sound : SoundPair first_page
 unfolding both_written
 first_sound = both_written older_known newer_known refl (lit< tt) (sym older_sums.0)
 
@@ -371,15 +371,14 @@ module _ (w : Write) (sound_store : Sound (store w)) (no_mark : store_mark (stor
 
 -- ---- writes
 
--- The identity is that of the slot, and the number is one above the highest n of the store.
-module _ (before : List Pair) (p : Pair) (behind : List Pair) {n : ℕ} (highest_is : highest (slots (shown (before ++ p ∷ behind))) ≡ n)
-    (f : SlotFields) (fits : Fits f) (format : f.format_major ≡ 2) (number : f.meta_seq ≡ n + 1)
+-- The identity is that of the slot.
+module _ (before : List Pair) (p : Pair) (behind : List Pair) (f : SlotFields) (fits : Fits f) (format : f.format_major ≡ 2)
     (asked : read_with f ≡ (slot_at f.slot_index p).expect) where
-  pub write_correct : (i : SlotInfo) → winner_info (report p) ≡ Some ((other f.slot_index), i)
+  pub write_correct : {n : ℕ} → f.meta_seq ≡ n → (i : SlotInfo) → winner_info (report p) ≡ Some ((other f.slot_index), i)
       → f.generation ≡ i.generation + 1 → f.prev_header_crc32c ≡ i.header_crc32c
       → (payload : List ℕ) → AllBytes payload → accepts p.decoder payload ≡ true → 128 + length payload ≤ 2 ^ f.log2_slot_size
-      → (tear : Tear) → CorrectWrite (write_to before p behind f payload tear)
-  write_correct i won generation prev payload payload_bytes accepted room tear =
+      → (tear : Tear) → CorrectWith n (write_to before p behind f payload tear)
+  write_correct number i won generation prev payload payload_bytes accepted room tear =
       record {
         winner = i;
         won = won;
@@ -392,7 +391,7 @@ module _ (before : List Pair) (p : Pair) (behind : List Pair) {n : ℕ} (highest
         generation = generation;
         generation_fits = fits.generation;
         prev = prev;
-        number = number ∙ sym (ap (λ (m : ℕ). m + 1) highest_is);
+        number = number;
         number_fits = fits.number;
         owner = fits.owner;
         compat = fits.compat;
@@ -401,6 +400,10 @@ module _ (before : List Pair) (p : Pair) (behind : List Pair) {n : ℕ} (highest
         fits = room;
         room = length-replicate (2 ^ f.log2_slot_size) 0;
       }
+
+-- The number is one above the highest n of the store.
+pub one_above : {m n : ℕ} → m ≡ n → n + 1 ≡ m + 1
+one_above is = ap (λ (k : ℕ). k + 1) (sym is)
 
 -- A slot with its checksums as numbers.
 abbrev pub summed_slot : ℕ → ℕ → SlotFields → List ℕ → List ℕ
@@ -418,18 +421,18 @@ summed_is f payload crc payload_crc none sum payload_sum =
 
 -- ---- a write to a page
 
-new_fits : Fits new_fields
+pub new_fits : Fits new_fields
 new_fits = fields_fit 9 1 SlotIndex.A 3 0xe83c_e718 5 (lit< tt) (lit< tt) (lit< tt) (lit< tt) (lit< tt) (lit< tt)
 
 page_correct : (k : ℕ) → CorrectWrite (page_write k)
 unfolding first_sound both_written
 page_correct k =
-    write_correct (volume_pair ∷ []) first_page (second_page ∷ []) highest_number new_fields new_fits refl refl refl
+    write_correct (volume_pair ∷ []) first_page (second_page ∷ []) new_fields new_fits refl refl (one_above highest_number)
     (info_of newer_fields (page_record 0 2)) (sound_won first_page first_sound) refl (sym newer_sums.0) (page_record 0 0x304) (page_bytes 0 0x304)
     page_accepted.2
     (page_fits 0 0x304) (Ascending k)
 
-new_sums : (header_crc new_fields (page_record 0 0x304) ≡ 0xd61e_00d0) × (crc32c (page_record 0 0x304) ≡ 0x9755_91c2)
+pub new_sums : (header_crc new_fields (page_record 0 0x304) ≡ 0xd61e_00d0) × (crc32c (page_record 0 0x304) ≡ 0x9755_91c2)
 unfolding header_crc header_bytes page_header_bytes crc32c final_remainder remainder digest reversed
 new_sums = (refl, refl)
 
@@ -486,7 +489,7 @@ marked_fits = fields_fit 9 0 SlotIndex.B 2 0x1d15_7c74 5 (lit< tt) (lit< tt) (li
 volume_correct : (k : ℕ) → CorrectWrite (volume_write k)
 unfolding volume_sound first_written
 volume_correct k =
-    write_correct [] volume_pair (first_page ∷ second_page ∷ []) highest_number marked_fields marked_fits refl refl refl
+    write_correct [] volume_pair (first_page ∷ second_page ∷ []) marked_fields marked_fits refl refl (one_above highest_number)
     (info_of volume_fields (volume_record false)) (sound_won volume_pair volume_sound) refl (sym volume_sum) (volume_record true) volume_bytes.1
     volume_accepted.1
     (rw volume_length (lit≤ tt)) (Ascending k)
@@ -553,7 +556,7 @@ next_fits = fields_fit 9 2 SlotIndex.B 2 0x2c8c_2a3c 5 (lit< tt) (lit< tt) (lit<
 second_correct : (k : ℕ) → CorrectWrite (second_write k)
 unfolding second_sound first_written
 second_correct k =
-    write_correct (volume_pair ∷ first_page ∷ []) second_page [] highest_number next_fields next_fits refl refl refl
+    write_correct (volume_pair ∷ first_page ∷ []) second_page [] next_fields next_fits refl refl (one_above highest_number)
     (info_of second_fields (page_record 1 0)) (sound_won second_page second_sound) refl (sym second_sum) (page_record 1 1) (page_bytes 1 1)
     page_accepted.5
     (page_fits 1 1) (Ascending k)
@@ -605,9 +608,9 @@ later_fits = fields_fit 9 1 SlotIndex.B 4 0xd61e_00d0 6 (lit< tt) (lit< tt) (lit
 later_correct : (k : ℕ) → CorrectWrite (later_write k)
 unfolding later_sound
 later_correct k =
-    write_correct (volume_pair ∷ []) later_page (second_page ∷ [])
-    (highest_with later_page (info_of new_fields (page_record 0 0x304)) (info_of newer_fields (page_record 0 2)) new_known.valid newer_known.valid)
-    later_fields later_fits refl refl refl
+    write_correct (volume_pair ∷ []) later_page (second_page ∷ []) later_fields later_fits refl refl
+    (one_above
+    (highest_with later_page (info_of new_fields (page_record 0 0x304)) (info_of newer_fields (page_record 0 2)) new_known.valid newer_known.valid))
     (info_of new_fields (page_record 0 0x304)) (sound_won later_page later_sound) refl (sym new_sums.0) (page_record 0 0x21b9_61ac)
     (page_bytes 0 0x21b9_61ac)
     page_accepted.3
