@@ -1,9 +1,10 @@
 //! What the cuts of a trial leave, and which of it a trial must meet.
 
+use crate::answers::Left;
 use crate::counts::{Answer, Function};
 use crate::cut_records::Kind;
 use crate::cut_store::{Pair, Write, MOST_PAIRS};
-use crate::cutting::{Cutting, Left};
+use crate::cutting::Cutting;
 use crate::part::Run;
 use crate::sample::{HEADER, HEADER_CRC, SMALLEST_LOG2};
 use crate::tear::{Medium, Tear, SECTOR};

@@ -2,10 +2,11 @@
 //! written, the store is writable, and nothing is healed but the written slot. The library is tried, and the reference
 //! over a weak checksum, so that accidents are met.
 
+use crate::answers::ReadBack;
 use crate::counts::{Counts, Function};
 use crate::cut_outcomes::{count_cut, count_write, function, outcome, ANY, ASCENDING, BY_SECTORS, OLDER_PASSING};
 use crate::cut_store::{random_store, random_write, Pair, Write};
-use crate::cutting::{Accident, Cutting, ReadBack};
+use crate::cutting::{untouched, Accident, Cutting};
 use crate::implementation::{Implementation, Library};
 use crate::part::{Checked, Fields, Report, Run};
 use crate::rng::Rng;
@@ -140,8 +141,8 @@ impl Trying {
             if at == write.pair {
                 continue;
             }
-            let expected = ReadBack::untouched(pair);
-            let found = ReadBack::found(self.trial.subject.tried, pair, &pair.slots);
+            let expected = untouched(pair);
+            let found = ReadBack::found(self.trial.subject.tried, pair.kind, &pair.at, &pair.slots);
             self.run.check(UNTOUCHED, found == expected, || Report {
                 inputs: pair_fields(at, pair),
                 expected: expected.fields(),

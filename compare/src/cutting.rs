@@ -1,37 +1,15 @@
 //! One write cut in many ways: what is answered to each slot that is left, beside what the cut theorem promises.
 
-use crate::cut_records::cells;
+use crate::answers::{confirmed, fill_frame, verdict, Answers, Left, ReadBack, IN_FLIGHT, NOTHING};
 use crate::cut_store::{stored_payload, Pair, Write};
-use crate::frames::{BAD_HEADER, BAD_PAYLOAD, BLANK, FRAME, HALF, VALID};
-use crate::implementation::{Implementation, Judged, WinnerPayload};
+use crate::frames::{BLANK, FRAME, VALID};
+use crate::implementation::Implementation;
 use crate::judge_reference::VERDICT;
 use crate::part::{number, Fields};
 use crate::sample::{HEADER, HEADER_CRC, HEADER_LEN, MAGIC, PAYLOAD_CRC};
 use crate::stored::get;
 use crate::tear::Tear;
-use crate::value::{hex, Value};
-
-/// What a slot's verdict says besides Winner.
-const NOTHING: u8 = 1;
-const OLDER_DAMAGED: u8 = 2;
-const IN_FLIGHT: u8 = 3;
-
-/// What a cut leaves in the written slot: by its bytes alone, and for another payload under the old header by its checksum.
-#[derive(Clone, Copy, PartialEq)]
-pub enum Left {
-    /// The old header over the old payload, or a blank one.
-    Old,
-    /// The old header over another payload, which fails its checksum.
-    OlderPayload,
-    /// The old header over another payload, which passes its checksum.
-    OlderPasses,
-    TornHeader,
-    /// A torn header that shows the checksum of the version before the winner: it passes for that one, damaged.
-    OlderHeader,
-    TornPayload,
-    /// Header and payload are the new ones.
-    New,
-}
+use crate::value::hex;
 
 /// What passes its checksum and is not what the checksum was taken of.
 #[derive(Clone, Copy, PartialEq)]
@@ -56,23 +34,6 @@ impl Accident {
             Self::OldPayload => "payload under the old header",
         }
     }
-}
-
-/// What is answered, but for the pairs that are not written.
-#[derive(PartialEq)]
-pub struct Answers {
-    status: u32,
-    judged: Judged,
-    read: ReadBack,
-}
-
-/// A record read back: the slot that it lies in, the statuses and the decision, and what the pair's decoder answers.
-#[derive(PartialEq)]
-pub struct ReadBack {
-    winner: u32,
-    report: [u8; 7],
-    record: Vec<u8>,
-    decoded: u32,
 }
 
 /// The store while a write is cut.
@@ -104,10 +65,7 @@ impl<'a> Cutting<'a> {
     fn fill_frame(&mut self, at: usize, slot: usize) -> u32 {
         let pair = &self.store[at];
         let stored = if at == self.write.pair { &self.slots[slot] } else { &pair.slots[slot] };
-        let (status, part) = self.tried.frame_slot(stored, &pair.at.slot(slot as u32), pair.at.numbered);
-        let start = FRAME * at + HALF * slot;
-        self.frames[start..start + HALF].copy_from_slice(&part);
-        status
+        fill_frame(self.tried, &mut self.frames, (at, slot), &pair.at, stored)
     }
 
     /// The written slot before the write.
@@ -184,24 +142,16 @@ impl<'a> Cutting<'a> {
     pub fn promised(&self, left: Left) -> Answers {
         let Write { pair: at, slot, record, .. } = self.write;
         let pair = self.pair();
-        let (status, says) = match left {
-            Left::Old => (if pair.blank { BLANK } else { VALID }, NOTHING),
-            Left::OlderPayload => (BAD_PAYLOAD, OLDER_DAMAGED),
-            Left::TornHeader => (BAD_HEADER, IN_FLIGHT),
-            Left::OlderHeader => (BAD_HEADER, OLDER_DAMAGED),
-            Left::TornPayload => (BAD_PAYLOAD, IN_FLIGHT),
-            Left::OlderPasses | Left::New => (VALID, NOTHING),
-        };
+        let (status, says) = left.answered(pair.blank);
         let (winner, record) = if left == Left::New { (*slot, record) } else { (pair.winner, &pair.record) };
         let mut statuses = [VALID; 2];
         statuses[*slot] = status;
         let mut verdicts: Vec<u8> = self.store.iter().flat_map(|pair| verdict(pair.winner, NOTHING)).collect();
         verdicts[VERDICT * at..VERDICT * (at + 1)].copy_from_slice(&verdict(winner, says));
-        let (heal, healed) = if says == IN_FLIGHT { (slot + 1, *at) } else { (0, 0) };
-        let judgement = [heal as u64, healed as u64, 1, self.mark(left).into(), 0];
+        let healed = (says == IN_FLIGHT).then_some((*at, *slot));
         Answers {
             status: status.into(),
-            judged: Judged { refusal: 0, verdicts, judgement },
+            judged: confirmed(verdicts, healed, self.mark(left)),
             read: ReadBack::promised(winner, statuses, record),
         }
     }
@@ -211,7 +161,7 @@ impl<'a> Cutting<'a> {
         Answers {
             status,
             judged: self.tried.judge(&self.frames, self.mark(left)),
-            read: ReadBack::found(self.tried, self.pair(), &self.slots),
+            read: ReadBack::found(self.tried, self.pair().kind, &self.pair().at, &self.slots),
         }
     }
 
@@ -237,53 +187,8 @@ impl<'a> Cutting<'a> {
     }
 }
 
-/// A Confirmed pair, and what is said of the slot that is not the winner.
-fn verdict(winner: usize, other: u8) -> [u8; VERDICT] {
-    let mut verdict = [0, winner as u8 + 1, other, other];
-    verdict[2 + winner] = 0;
-    verdict
-}
-
-impl Answers {
-    pub fn fields(&self) -> Fields {
-        let mut fields = vec![
-            ("slot's status", number(self.status)),
-            ("refusal", number(self.judged.refusal)),
-            ("verdicts", hex(&self.judged.verdicts)),
-            ("judgement", hex(&self.judged.judgement.packed())),
-        ];
-        fields.extend(self.read.fields());
-        fields
-    }
-}
-
-impl ReadBack {
-    /// The record of a Confirmed winner; no gap and no break, and the other slot is written next.
-    pub fn promised(winner: usize, [a, b]: [u8; 2], record: &[u8]) -> Self {
-        let winner = winner as u8 + 1;
-        let other = 3 - winner;
-        Self { winner: winner.into(), report: [a, b, 0, winner, 0, 0, other], record: record.to_vec(), decoded: 0 }
-    }
-
-    /// That of a pair which is not written.
-    pub fn untouched(pair: &Pair) -> Self {
-        let other = if pair.blank { BLANK } else { VALID };
-        Self::promised(pair.winner, [VALID, other], &pair.record)
-    }
-
-    pub fn found(tried: &dyn Implementation, pair: &Pair, slots: &[Vec<u8>; 2]) -> Self {
-        let WinnerPayload { winner, start, payload_len, report } = tried.winner_payload(slots, &pair.at);
-        let slot = slots.get((winner as usize).wrapping_sub(1));
-        let record = slot.and_then(|slot| slot.get(start..start.checked_add(payload_len)?)).unwrap_or(&[]);
-        Self { winner, report, record: record.to_vec(), decoded: pair.kind.decode(&cells(record)) }
-    }
-
-    pub fn fields(&self) -> Fields {
-        vec![
-            ("slot read back", number(self.winner)),
-            ("report", hex(&self.report)),
-            ("record", hex(&self.record)),
-            ("decoder", number(self.decoded)),
-        ]
-    }
+/// What is read back of a pair that is not written.
+pub fn untouched(pair: &Pair) -> ReadBack {
+    let other = if pair.blank { BLANK } else { VALID };
+    ReadBack::promised(pair.winner, [VALID, other], &pair.record)
 }

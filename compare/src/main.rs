@@ -29,6 +29,7 @@ mod pair;
 #[rustfmt::skip]
 mod slot;
 
+mod answers;
 mod bench;
 mod bench_judge;
 mod bench_meta;
