@@ -5,11 +5,10 @@ use crate::ffi::Version;
 use crate::ffi_pair::PairIdentity;
 use crate::implementation::Implementation;
 use crate::page_sample::{ENTRY, PAGE_HEADER};
+use crate::passing::stored_payload;
 use crate::rng::Rng;
-use crate::sample::{HEADER, PAYLOAD_LEN, YES};
-use crate::stored::get;
+use crate::sample::{HEADER, YES};
 use crate::tear::Medium;
-use std::ops::Range;
 
 pub const MOST_PAIRS: usize = 8;
 
@@ -162,11 +161,6 @@ pub fn random_write(rng: &mut Rng, tried: &dyn Implementation, medium: Medium, s
         _ => (),
     }
     Write { pair: written, slot, record, mark, same_checksum, new }
-}
-
-/// Where a slot's payload lies by the length in its header; a Blank slot has none.
-pub fn stored_payload(slot: &[u8]) -> Range<usize> {
-    HEADER..HEADER + get(slot, PAYLOAD_LEN) as usize
 }
 
 /// The compatible flags with which a header has the winner's previous checksum. The checksum is a sum without carry of

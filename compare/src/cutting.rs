@@ -1,12 +1,13 @@
 //! One write cut in many ways: what is answered to each slot that is left, beside what the cut theorem promises.
 
 use crate::answers::{confirmed, fill_frame, verdict, Answers, Left, ReadBack, IN_FLIGHT, NOTHING};
-use crate::cut_store::{stored_payload, Pair, Write};
+use crate::cut_store::{Pair, Write};
 use crate::frames::{BLANK, FRAME, VALID};
 use crate::implementation::Implementation;
 use crate::judge_reference::VERDICT;
 use crate::part::{number, Fields};
-use crate::sample::{HEADER, HEADER_CRC, HEADER_LEN, MAGIC, PAYLOAD_CRC};
+use crate::passing::{header_passes, payload_passes, stored_payload};
+use crate::sample::{HEADER, HEADER_CRC};
 use crate::stored::get;
 use crate::tear::Tear;
 use crate::value::hex;
@@ -99,7 +100,7 @@ impl<'a> Cutting<'a> {
         } else if cut[..HEADER] == old[..HEADER] {
             if cut[stored_payload(old)] == old[stored_payload(old)] {
                 Left::Old
-            } else if self.payload_passes() {
+            } else if payload_passes(self.tried, cut) {
                 Left::OlderPasses
             } else {
                 Left::OlderPayload
@@ -111,24 +112,10 @@ impl<'a> Cutting<'a> {
         }
     }
 
-    fn payload_passes(&self) -> bool {
-        let cut = self.cut();
-        u64::from(self.tried.checksum(&cut[stored_payload(cut)])) == get(cut, PAYLOAD_CRC)
-    }
-
-    fn header_passes(&self) -> bool {
-        let cut = self.cut();
-        let len = get(cut, HEADER_LEN) as usize;
-        (HEADER..=cut.len()).contains(&len) && {
-            let counted = [&cut[MAGIC], &[0; 4], &cut[HEADER_CRC.end..len]].concat();
-            u64::from(self.tried.checksum(&counted)) == get(cut, HEADER_CRC)
-        }
-    }
-
     pub fn accident(&self, left: Left) -> Option<Accident> {
         match left {
-            Left::TornHeader | Left::OlderHeader => self.header_passes().then_some(Accident::Header),
-            Left::TornPayload => self.payload_passes().then_some(Accident::NewPayload),
+            Left::TornHeader | Left::OlderHeader => header_passes(self.tried, self.cut()).then_some(Accident::Header),
+            Left::TornPayload => payload_passes(self.tried, self.cut()).then_some(Accident::NewPayload),
             Left::OlderPasses => Some(Accident::OldPayload),
             Left::Old | Left::OlderPayload | Left::New => None,
         }

@@ -76,6 +76,7 @@ mod pages;
 mod pages_sweep;
 mod pairs;
 mod part;
+mod passing;
 mod places;
 mod plan_reference;
 mod planning;
