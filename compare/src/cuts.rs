@@ -11,6 +11,7 @@ use crate::implementation::{Implementation, Library};
 use crate::part::{Checked, Fields, Report, Run};
 use crate::rng::Rng;
 use crate::tear::{Medium, Tear};
+use crate::trials::{run_all, Accidents, Running};
 use crate::value::hex;
 use crate::weak::Weak;
 use std::ops::RangeInclusive;
@@ -84,55 +85,26 @@ const TRIALS: &[Trial] = &[
 const LEAST_SHARE: u64 = 100;
 
 pub fn run(seed: u64, cuts: &Cuts) -> ExitCode {
-    println!("seed {seed:#x}");
-    let mut total = 0;
-    for trial in TRIALS {
-        let mut trying = Trying::new(trial, seed);
-        let wanted = (trial.cuts)(cuts);
-        println!("{}:", trial.title);
-        if let Err(mismatch) = trying.try_writes(wanted) {
-            print!("{mismatch}");
-            return ExitCode::FAILURE;
-        }
-        trying.print();
-        let faults = trying.faults(wanted / LEAST_SHARE);
-        if !faults.is_empty() {
-            println!("fault of the driver:\n{}", faults.join("\n"));
-            return ExitCode::FAILURE;
-        }
-        total += trying.run.counts.total();
-    }
-    println!("seed {seed:#x}");
-    println!("cuts: {total} cuts, all as promised");
-    ExitCode::SUCCESS
+    let trials = TRIALS.iter().map(|trial| Box::new(Trying::new(trial, seed, cuts)) as Box<dyn Running>);
+    run_all("cuts", "cuts", seed, trials)
 }
 
 /// A trial under way.
 struct Trying {
     trial: &'static Trial,
+    /// How many cuts there must be.
+    wanted: u64,
     run: Run,
     /// Of each kind, in its order.
-    accidents: [u64; Accident::ALL.len()],
+    accidents: Vec<Accidents>,
 }
 
 impl Trying {
-    fn new(trial: &'static Trial, seed: u64) -> Self {
+    fn new(trial: &'static Trial, seed: u64, cuts: &Cuts) -> Self {
         let functions = trial.functions.iter().copied().flatten();
         let run = Run { rng: Rng::new(seed), counts: Counts::new(functions) };
-        Self { trial, run, accidents: [0; Accident::ALL.len()] }
-    }
-
-    /// Whole writes until there are `cuts` cuts.
-    fn try_writes(&mut self, cuts: u64) -> Checked {
-        let Trial { subject: Subject { tried, .. }, medium, .. } = *self.trial;
-        while self.run.counts.total() < cuts {
-            let mut store = random_store(&mut self.run.rng, tried, medium);
-            let write = random_write(&mut self.run.rng, tried, medium, &mut store);
-            self.untouched_pairs(&store, &write)?;
-            self.every_cut(&store, &write)?;
-            count_write(&mut self.run, &store, &write, medium);
-        }
-        Ok(())
+        let accidents = Accident::ALL.iter().map(|accident| accidents(*accident, trial)).collect();
+        Self { trial, wanted: (trial.cuts)(cuts), run, accidents }
     }
 
     /// Their slots are the same at every cut, and so is what is read back; their verdicts are compared at each.
@@ -165,8 +137,7 @@ impl Trying {
         cutting.tear(tear);
         let left = cutting.left();
         if let Some(accident) = cutting.accident(left) {
-            self.accidents[accident as usize] += 1;
-            if self.trial.subject.left_out.contains(&accident) {
+            if self.accidents[accident as usize].add() {
                 return Ok(());
             }
         }
@@ -179,32 +150,51 @@ impl Trying {
             Report { inputs, expected: expected.fields(), found: found.fields() }
         })
     }
+}
+
+impl Running for Trying {
+    fn title(&self) -> &'static str {
+        self.trial.title
+    }
+
+    /// Whole writes until there are as many cuts as wanted.
+    fn run(&mut self) -> Checked {
+        let Trial { subject: Subject { tried, .. }, medium, .. } = *self.trial;
+        while self.total() < self.wanted {
+            let mut store = random_store(&mut self.run.rng, tried, medium);
+            let write = random_write(&mut self.run.rng, tried, medium, &mut store);
+            self.untouched_pairs(&store, &write)?;
+            self.every_cut(&store, &write)?;
+            count_write(&mut self.run, &store, &write, medium);
+        }
+        Ok(())
+    }
 
     fn print(&self) {
         self.run.counts.print();
-        for accident in Accident::ALL {
-            let fate = if self.trial.subject.left_out.contains(accident) { "left out" } else { "tried" };
-            println!("accidents, {}, {fate}: {}", accident.name(), self.accidents[*accident as usize]);
-        }
+        self.accidents.iter().for_each(Accidents::print);
     }
 
-    /// What the trial lacks, and accidents of a kind that there cannot be.
-    fn faults(&self, least: u64) -> Vec<String> {
-        let mut faults = self.run.counts.faults(least);
-        for accident in Accident::ALL {
-            let possible = match accident {
-                Accident::Header => self.trial.medium == Medium::Ascending,
-                Accident::NewPayload => true,
-                Accident::OldPayload => self.trial.medium == Medium::Sectors,
-            };
-            let met = self.accidents[*accident as usize];
-            let allowed = if possible { self.trial.subject.accidents.clone() } else { 0..=0 };
-            if !allowed.contains(&met) {
-                faults.push(format!("accidents, {}: {met}, not in {allowed:?}", accident.name()));
-            }
-        }
+    fn faults(&self) -> Vec<String> {
+        let mut faults = self.run.counts.faults(self.wanted / LEAST_SHARE);
+        faults.extend(self.accidents.iter().filter_map(Accidents::fault));
         faults
     }
+
+    fn total(&self) -> u64 {
+        self.run.counts.total()
+    }
+}
+
+/// None of one kind is met yet.
+fn accidents(accident: Accident, trial: &Trial) -> Accidents {
+    let possible = match accident {
+        Accident::Header => trial.medium == Medium::Ascending,
+        Accident::NewPayload => true,
+        Accident::OldPayload => trial.medium == Medium::Sectors,
+    };
+    let allowed = if possible { trial.subject.accidents.clone() } else { 0..=0 };
+    Accidents::new(accident.name(), trial.subject.left_out.contains(&accident), allowed)
 }
 
 fn pair_fields(at: usize, pair: &Pair) -> Fields {

@@ -92,6 +92,7 @@ mod slots_sweep;
 mod stored;
 mod table_reference;
 mod tear;
+mod trials;
 mod value;
 mod verdicts;
 mod volume_sample;
