@@ -1,7 +1,7 @@
 //! Sound stores and correct writes (docs/FORMAT.md, "The sound store and the cut"), made by what is tried.
 
 use crate::cut_records::{clean_mark, Kind};
-use crate::ffi::Version;
+use crate::ffi::{Identity, Version};
 use crate::ffi_pair::PairIdentity;
 use crate::implementation::Implementation;
 use crate::page_sample::{ENTRY, PAGE_HEADER};
@@ -44,10 +44,15 @@ pub struct Write {
 
 pub fn random_store(rng: &mut Rng, tried: &dyn Implementation, medium: Medium) -> Vec<Pair> {
     let pairs = 1 + rng.below(MOST_PAIRS);
+    store_of(rng, tried, pairs, |rng| medium.log2(rng))
+}
+
+/// A sound store of so many pairs; `log2` draws the size of each pair's slots.
+pub fn store_of(rng: &mut Rng, tried: &dyn Implementation, pairs: usize, log2: impl Fn(&mut Rng) -> u8) -> Vec<Pair> {
     let volume = (rng.any(), rng.any());
     let numbers = random_numbers(rng, pairs);
     let numbers = numbers.into_iter().enumerate();
-    numbers.map(|(at, numbers)| random_pair(rng, tried, medium, at, volume, numbers)).collect()
+    numbers.map(|(at, numbers)| random_pair(rng, tried, &log2, at, volume, numbers)).collect()
 }
 
 /// Two rising numbers for each pair; the highest has a number above it. As a store hands them out, anything, or a few
@@ -78,12 +83,12 @@ fn rising(rng: &mut Rng, highest: u64) -> [u64; 2] {
 fn random_pair(
     rng: &mut Rng,
     tried: &dyn Implementation,
-    medium: Medium,
+    log2: &impl Fn(&mut Rng) -> u8,
     at: usize,
     volume: (u64, u64),
     [older, newer]: [u64; 2],
 ) -> Pair {
-    let log2_slot_size = medium.log2(rng);
+    let log2_slot_size = log2(rng);
     let fit = fitting_entries(1 << log2_slot_size);
     let kind = if at == 0 { Kind::Volume } else { Kind::page(rng, at as u32 - 1, fit) };
     let at = PairIdentity {
@@ -122,7 +127,7 @@ fn random_pair(
 }
 
 /// How many entries a page has room for in a slot of that size.
-fn fitting_entries(size: usize) -> usize {
+pub fn fitting_entries(size: usize) -> usize {
     (size - HEADER - PAGE_HEADER) / ENTRY
 }
 
@@ -148,11 +153,12 @@ pub fn random_write(rng: &mut Rng, tried: &dyn Implementation, medium: Medium, s
     let record = pair.kind.record(rng, fit, Some(&pair.record), mark);
     let mark = matches!(pair.kind, Kind::Volume) && clean_mark(&record);
     let mut version = version(rng, pair.generation + 1, highest + 1, pair.own);
+    let at = pair.at.slot(slot as u32);
     let same_checksum = rng.one_in(16);
     if same_checksum {
-        version.compat_flags = flags_for(tried, pair, slot, &version, &record);
+        version.compat_flags = flags_for(tried, &at, &version, &record, (pair.previous, tried.checksum_bits()));
     }
-    let (new, _) = tried.encode(&pair.at.slot(slot as u32), &version, &record);
+    let (new, _) = tried.encode(&at, &version, &record);
     let counts = stored_payload(&pair.slots[slot]).end;
     let below = &mut pair.slots[slot][counts..];
     match rng.below(4) {
@@ -163,15 +169,20 @@ pub fn random_write(rng: &mut Rng, tried: &dyn Implementation, medium: Medium, s
     Write { pair: written, slot, record, mark, same_checksum, new }
 }
 
-/// The compatible flags with which a header has the winner's previous checksum. The checksum is a sum without carry of
-/// what each bit of the flags adds, and four bytes in a row can give it any value: elimination finds the bits.
-fn flags_for(tried: &dyn Implementation, pair: &Pair, slot: usize, version: &Version, record: &[u8]) -> u32 {
-    let at = pair.at.slot(slot as u32);
-    let checksum = |flags| tried.encode(&at, &Version { compat_flags: flags, ..*version }, record).1;
+/// The compatible flags with which a header has the lowest `bits` of the checksum `wanted`. The checksum is a sum without
+/// carry of what each bit of the flags adds, and four bytes in a row can give it any value: elimination finds the bits.
+pub fn flags_for(
+    tried: &dyn Implementation,
+    at: &Identity,
+    version: &Version,
+    record: &[u8],
+    (wanted, bits): (u32, u32),
+) -> u32 {
+    let checksum = |flags| tried.encode(at, &Version { compat_flags: flags, ..*version }, record).1;
     let without = checksum(0);
     let mut rows: Vec<(u32, u32)> = (0..32).map(|bit| (checksum(1 << bit) ^ without, 1 << bit)).collect();
-    let mut wanted = (pair.previous ^ without, 0);
-    for bit in 0..tried.checksum_bits() {
+    let mut wanted = (wanted ^ without, 0);
+    for bit in 0..bits {
         let has = |row: &(u32, u32)| row.0 >> bit & 1 == 1;
         let at = rows.iter().position(has).expect("every bit of the checksum depends on the flags");
         let pivot = rows.swap_remove(at);
