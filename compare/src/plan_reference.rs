@@ -27,6 +27,19 @@ impl Plan {
     }
 }
 
+/// As C has it: zeros where there is no plan.
+pub fn write_numbers(plan: &Option<Plan>) -> [u64; 4] {
+    plan.map_or([0; 4], |plan| plan.numbers())
+}
+
+/// The same, after the pair.
+pub fn heal_numbers(heal: &Option<(usize, Plan)>) -> [u64; 5] {
+    heal.map_or([0; 5], |(pair, plan)| {
+        let [slot, generation, previous, number] = plan.numbers();
+        [pair as u64, slot, generation, previous, number]
+    })
+}
+
 /// The slots of all pairs, or the number of a refusal.
 fn read(frames: &[u8], clean: u8) -> Result<Vec<[Slot; 2]>, u32> {
     if frames.is_empty() {

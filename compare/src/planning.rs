@@ -212,16 +212,9 @@ fn plan_write(run: &mut Run, asked: &Asked) -> Checked {
     let name = |plan: &Option<Plan>| plan.as_ref().map_or(NONE, slot_answer);
     planned(PLAN_WRITE, &expected, refusal, name).compare(
         run,
-        &[("frames", &frames), ("plan", &filled(&plan, &expected, |plan| plan.map_or([0; 4], |plan| plan.numbers())))],
+        &[("frames", &frames), ("plan", &filled(&plan, &expected, reference::write_numbers))],
         || fields(asked),
     )
-}
-
-fn heal_numbers(heal: &Option<(usize, Plan)>) -> [u64; 5] {
-    heal.map_or([0; 5], |(pair, plan)| {
-        let [slot, generation, previous, number] = plan.numbers();
-        [pair as u64, slot, generation, previous, number]
-    })
 }
 
 fn plan_heal(run: &mut Run, asked: &Asked) -> Checked {
@@ -233,7 +226,7 @@ fn plan_heal(run: &mut Run, asked: &Asked) -> Checked {
         |heal: &Option<(usize, Plan)>| heal.map_or(NONE, |(_, plan)| if plan.slot == 0 { SLOT_A } else { SLOT_B });
     planned(PLAN_HEAL, &expected, refusal, name).compare(
         run,
-        &[("frames", &frames), ("plan", &filled(&plan, &expected, heal_numbers))],
+        &[("frames", &frames), ("plan", &filled(&plan, &expected, reference::heal_numbers))],
         || fields(asked),
     )
 }
