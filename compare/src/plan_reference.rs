@@ -21,6 +21,16 @@ pub struct Plan {
 }
 
 impl Plan {
+    pub fn version(&self, written: Written) -> Version {
+        Version {
+            generation: self.generation,
+            owner_generation: written.owner_generation,
+            prev_header_crc32c: self.previous,
+            meta_seq: self.number,
+            compat_flags: written.compat_flags,
+        }
+    }
+
     /// As C has it: the slot is 1 for A and 2 for B.
     pub fn numbers(&self) -> [u64; 4] {
         [self.slot as u64 + 1, self.generation, self.previous.into(), self.number]
@@ -72,7 +82,8 @@ fn is_numbered(slot: &Slot) -> bool {
     slot.code == VALID || slot.code == BAD_PAYLOAD && slot.facts == 2
 }
 
-fn above(numbers: impl Iterator<Item = u64>) -> Result<u64, u32> {
+/// One above the highest, 1 where there is none.
+pub fn above(numbers: impl Iterator<Item = u64>) -> Result<u64, u32> {
     numbers.max().unwrap_or(0).checked_add(1).ok_or(USED_UP)
 }
 
@@ -141,13 +152,7 @@ pub fn next_write(
     slot: &mut [u8],
 ) -> Result<Option<(Plan, u32)>, u32> {
     let Some(plan) = plan_write(frames, pair)? else { return Ok(None) };
-    let version = Version {
-        generation: plan.generation,
-        owner_generation: written.owner_generation,
-        prev_header_crc32c: plan.previous,
-        meta_seq: plan.number,
-        compat_flags: written.compat_flags,
-    };
+    let version = plan.version(written);
     let at = PairIdentity { format_major: 2, numbered: 1, ..*at };
     let encoded = slot_reference::encode(slot, &at.slot(plan.slot as u32), &version, payload);
     encoded.header_crc32c.map(|crc| Some((plan, crc))).ok_or(encoded.refusal)
