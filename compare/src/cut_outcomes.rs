@@ -97,7 +97,7 @@ pub const BY_SECTORS: &[Function] = &[
 pub const OLDER_PASSING: &[Function] = &[Function::new(PAGE_OLDER, &[Answer::Decision(OLDER_PASSES)])];
 
 /// How many pairs a store has, from 1 on.
-const COUNTS_OF_PAIRS: [Answer; MOST_PAIRS] = [
+pub const COUNTS_OF_PAIRS: [Answer; MOST_PAIRS] = [
     Answer::Decision("1"),
     Answer::Decision("2"),
     Answer::Decision("3"),

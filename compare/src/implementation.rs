@@ -1,10 +1,12 @@
-//! Who writes slots, reads them back and judges them in a trial of the cut theorem.
+//! Who writes slots, reads them back, judges them and says what to write next in a trial of cut stores.
 
 use crate::cut_records::{bytes, cells, done};
 use crate::ffi::{self, Identity, Version};
 use crate::ffi_pair::{self, Answered, PairIdentity};
+use crate::ffi_plan;
 use crate::frames::{FRAME, HALF};
 use crate::judge_reference::VERDICT;
+use crate::outcome::Expected;
 use std::cell::Cell;
 
 pub trait Implementation {
@@ -18,6 +20,8 @@ pub trait Implementation {
     fn frame_slot(&self, slot: &[u8], at: &Identity, numbered: u32) -> (u32, [u8; HALF]);
     fn judge(&self, frames: &[u8], clean: bool) -> Judged;
     fn winner_payload(&self, slots: &[Vec<u8>; 2], at: &PairIdentity) -> WinnerPayload;
+    /// What to write, to this pair or to heal under a mark that is not set.
+    fn planned(&self, frames: &[u8], pair: usize) -> Planned;
 }
 
 /// The number of a refusal or 0, a verdict for each pair, and the judgement.
@@ -34,6 +38,16 @@ pub struct WinnerPayload {
     pub start: usize,
     pub payload_len: usize,
     pub report: [u8; 7],
+}
+
+/// The number that is next, the one above the winners, the plan of a pair's next write and that of the write that heals,
+/// as C has them: zeros where there is no plan.
+#[derive(PartialEq)]
+pub struct Planned {
+    pub next_number: Expected<u64>,
+    pub heal_number: Expected<u64>,
+    pub write: Expected<[u64; 4]>,
+    pub heal: Expected<[u64; 5]>,
 }
 
 /// The built library.
@@ -84,5 +98,24 @@ impl Implementation for Library {
             payload_len: answered.payload_len.get(),
             report: answered.report.get(),
         }
+    }
+
+    fn planned(&self, frames: &[u8], pair: usize) -> Planned {
+        let frames = cells(frames);
+        Planned {
+            next_number: left_in(u64::MAX, |number| ffi_plan::next_number(&frames, number)),
+            heal_number: left_in(u64::MAX, |number| ffi_plan::heal_number(&frames, number)),
+            write: left_in([u64::MAX; 4], |plan| ffi_plan::plan_write(&frames, pair, plan)),
+            heal: left_in([u64::MAX; 5], |plan| ffi_plan::plan_heal(&frames, 0, plan)),
+        }
+    }
+}
+
+/// What a call leaves in its cell, which holds `before`, or the number that it refuses with.
+fn left_in<T: Copy>(before: T, call: impl FnOnce(&Cell<T>) -> u32) -> Expected<T> {
+    let cell = Cell::new(before);
+    match call(&cell) {
+        0 => Ok(cell.get()),
+        refusal => Err(refusal),
     }
 }

@@ -1,4 +1,5 @@
-//! Compares the functions of libstore_io.a with the Rust reference, tries the cut theorem on them, and measures both.
+//! Compares the functions of libstore_io.a with the Rust reference, tries cut writes and histories of writes on them, and
+//! measures both.
 
 #[path = "../../docs/src/crates/store-io-format/src/codec.rs"]
 #[allow(dead_code)]
@@ -57,6 +58,14 @@ mod ffi_plan;
 mod ffi_table;
 mod ffi_volume;
 mod frames;
+mod histories;
+mod history;
+mod history_hosts;
+mod history_made;
+mod history_outcomes;
+mod history_pair;
+mod history_steps;
+mod history_writes;
 mod implementation;
 mod judge_reference;
 mod judging;
@@ -103,6 +112,7 @@ mod winners;
 
 use counts::Counts;
 use cuts::Cuts;
+use histories::Histories;
 use part::{Checked, Part, Run};
 use rng::Rng;
 use std::process::ExitCode;
@@ -133,14 +143,17 @@ const QUICK_CUTS: Cuts = Cuts { ascending: 1_000_000, sectors: 40_000, weak_asce
 const LONG_CUTS: Cuts =
     Cuts { ascending: 40_000_000, sectors: 12_000_000, weak_ascending: 4_000_000, weak_sectors: 4_000_000 };
 
+const QUICK_HISTORIES: Histories = Histories { random: 50_000, weak: 40_000, made: 10_000 };
+const LONG_HISTORIES: Histories = Histories { random: 1_000_000, weak: 1_000_000, made: 1_000_000 };
+
 const QUICK_RUNS: u64 = 300;
 const LONG_RUNS: u64 = 3_000;
 
 const QUICK_LISTS: u64 = 700;
 const LONG_LISTS: u64 = 7_000;
 
-const USAGE: &str = "usage: compare quick | long [SEED] | cuts [long [SEED]] | verdicts PROGRAM [SEED] | \
-    rows PROGRAM [SEED] | list codec|slots|judge|meta | bench";
+const USAGE: &str = "usage: compare quick | long [SEED] | cuts [long [SEED]] | histories [long [SEED]] | \
+    verdicts PROGRAM [SEED] | rows PROGRAM [SEED] | list codec|slots|judge|meta | bench";
 
 const BAD_SEED: &str = "SEED is a number, decimal or hex with 0x";
 
@@ -161,6 +174,12 @@ fn main() -> ExitCode {
         ["cuts", "long"] => cuts::run(clock_seed(), &LONG_CUTS),
         ["cuts", "long", seed] => match parse_seed(seed) {
             Some(seed) => cuts::run(seed, &LONG_CUTS),
+            None => fail(BAD_SEED),
+        },
+        ["histories"] => histories::run(QUICK_SEED, &QUICK_HISTORIES),
+        ["histories", "long"] => histories::run(clock_seed(), &LONG_HISTORIES),
+        ["histories", "long", seed] => match parse_seed(seed) {
+            Some(seed) => histories::run(seed, &LONG_HISTORIES),
             None => fail(BAD_SEED),
         },
         ["verdicts", program] => verdicts::run(program, QUICK_SEED, QUICK_RUNS),

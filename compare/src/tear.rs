@@ -1,7 +1,7 @@
 //! How a write may be cut: what of it reached its slot.
 
 use crate::rng::Rng;
-use crate::sample::MAGIC;
+use crate::sample::{HEADER, HEADER_CRC, MAGIC};
 use std::fmt;
 
 /// The bytes of a sector, aligned in its slot.
@@ -66,6 +66,25 @@ impl Medium {
 }
 
 impl Tear {
+    /// After the first byte of the header's checksum.
+    pub const IN_CHECKSUM: Self = Self::Ascending(HEADER_CRC.start + 1);
+
+    /// Any cut of a write of `size` bytes whose record ends at `end`, often one where something changes. Of one sector
+    /// there is little to cut but bytes.
+    pub fn random(rng: &mut Rng, size: usize, end: usize) -> Self {
+        let sectors = size / SECTOR;
+        if rng.one_in(if sectors == 1 { 8 } else { 2 }) {
+            Self::Sectors(some_sectors(rng, sectors))
+        } else {
+            Self::Ascending(some_bytes(rng, size, end))
+        }
+    }
+
+    /// The set of all sectors of so many bytes.
+    pub fn all_sectors(size: usize) -> u128 {
+        all(size / SECTOR)
+    }
+
     /// The slot that is left of the new bytes and the old ones.
     pub fn left(self, new: &[u8], old: &[u8]) -> Vec<u8> {
         match self {
@@ -119,4 +138,31 @@ fn sets(rng: &mut Rng, sectors: usize) -> Vec<u128> {
 fn random_set(rng: &mut Rng, sectors: usize) -> u128 {
     let eighths = 1 + rng.below(7);
     (0..sectors).filter(|_| rng.below(8) < eighths).map(|at| 1 << at).sum()
+}
+
+/// None, all, one, all but one, or any of so many sectors.
+fn some_sectors(rng: &mut Rng, sectors: usize) -> u128 {
+    let all = all(sectors);
+    match rng.below(8) {
+        0 => 0,
+        1 => all,
+        2..=3 => 1 << rng.below(sectors),
+        4..=5 => all ^ 1 << rng.below(sectors),
+        _ => random_set(rng, sectors),
+    }
+}
+
+/// None or at least the magic: most often about the checksum, the header's end or that of the record.
+fn some_bytes(rng: &mut Rng, size: usize, end: usize) -> usize {
+    let near = match rng.below(16) {
+        0 => return 0,
+        1 => size,
+        2..=4 => HEADER_CRC.start + rng.below(2),
+        5..=6 => HEADER_CRC.start + rng.below(9),
+        7..=8 => HEADER / 2 + rng.below(HEADER / 2),
+        9..=10 => HEADER - 4 + rng.below(9),
+        11..=13 => end - 4 + rng.below(9),
+        _ => rng.below(size),
+    };
+    near.clamp(MAGIC.end, size)
 }

@@ -27,7 +27,8 @@ mod slot_reference;
 use crate::ffi::{Identity, Version};
 use crate::ffi_pair::PairIdentity;
 use crate::frames::{FRAME, HALF};
-use crate::implementation::{Implementation, Judged, WinnerPayload};
+use crate::implementation::{Implementation, Judged, Planned, WinnerPayload};
+use crate::plan_reference::{self, heal_numbers, write_numbers};
 
 const BITS: u32 = 4;
 
@@ -79,6 +80,16 @@ impl Implementation for Weak {
             start: found.start,
             payload_len: found.payload_len,
             report: found.report,
+        }
+    }
+
+    /// The frames say all of it, and no checksum is taken of them.
+    fn planned(&self, frames: &[u8], pair: usize) -> Planned {
+        Planned {
+            next_number: plan_reference::next_number(frames),
+            heal_number: plan_reference::heal_number(frames),
+            write: plan_reference::plan_write(frames, pair).map(|plan| write_numbers(&plan)),
+            heal: plan_reference::plan_heal(frames, 0).map(|heal| heal_numbers(&heal)),
         }
     }
 }
