@@ -579,16 +579,22 @@ uint32_t sio_judge(const uint8_t *frames, size_t frames_len, uint8_t clean, uint
  * payload that the pair's decoder accepts, cut after any number of bytes but one to seven, or with any of its aligned sectors
  * of 512 bytes whole and the others not begun, and without an accident (docs/FORMAT.md, "The sound store and the cut"), leaves
  * a store that is judged writable, and of every pair the last record that was written whole. A write that is finished leaves
- * a sound store. Not covered: the first write after a clean close, a healing write, and the writes after a cut.
+ * a sound store.
+ *
+ * Promised of the writes after a cut: where a host begins with such a store, writes as sio_plan_heal says wherever it names a
+ * slot and else as sio_plan_write says, and sets no clean mark, then after each write, finished or cut in either way without an
+ * accident (docs/FORMAT.md, "A history of writes"), the store is judged writable, and of every pair the record that is read is
+ * the last one finished or one begun after it, whole. A write that heals may be cut too, any number of times. Not covered: what
+ * follows a write that sets the clean mark.
  */
 
 /* The number of the next write: one above the highest of all numbered slots, 1 where there is none; 48 where that is 2^64. The
  * numbered slots are those under 12, and those under 11 with facts 2. */
 uint32_t sio_next_number(const uint8_t *frames, size_t frames_len, uint64_t *number);
 
-/* One above the numbers of all winners, 1 where there is none; 48 where that is 2^64. It is the number of the theorem on
- * healing writes, and is right in the states that a store reaches by correct writes, cuts and heals. In a damaged store it is
- * not enough: a host heals by sio_plan_heal alone. */
+/* One above the numbers of all winners, 1 where there is none; 48 where that is 2^64. It is the number of a write that heals,
+ * the one that sio_plan_heal gives, in every store that a history of writes leads to (docs/FORMAT.md, "A history of writes"). In
+ * a damaged store it is not enough: a host heals by sio_plan_heal alone. */
 uint32_t sio_heal_number(const uint8_t *frames, size_t frames_len, uint64_t *number);
 
 /* The next write of the pair with that number, from 0: plan, SIO_PLAN_.., is the slot (1 A, 2 B), the generation, the previous
