@@ -25,19 +25,21 @@ zero_byte [] zeros i = refl
 zero_byte (x ∷ s) zeros zero = eqb-true x 0 (both (x == 0) _ zeros).0
 zero_byte (x ∷ s) zeros (suc i) = zero_byte s (both (x == 0) _ zeros).1 i
 
+zero_length : (s : List ℕ) → is_blank s ≡ true → (get_or s 12 0 ≡ 0) × (get_or s 13 0 ≡ 0)
+zero_length s zeros = (
+  sym (get_or-take 128 s 12 0 (lit< tt)) ∙ zero_byte (take 128 s) zeros 12,
+  sym (get_or-take 128 s 13 0 (lit< tt)) ∙ zero_byte (take 128 s) zeros 13,
+)
+
 blank_short : (s : List ℕ) → is_blank s ≡ true → Short s
-blank_short s zeros =
-    let low : get_or s 12 0 ≡ 0 = sym (get_or-take 128 s 12 0 (lit< tt)) ∙ zero_byte (take 128 s) zeros 12 in
-    let high : get_or s 13 0 ≡ 0 = sym (get_or-take 128 s 13 0 (lit< tt)) ∙ zero_byte (take 128 s) zeros 13 in
-    record { low = omega arith; high = high }
+blank_short s zeros = let zero = zero_length s zeros in record { low = omega (arith, zero.0); high = zero.1 }
 
 -- A header of zeros passes no checksum.
 pub blank_fails : (s : List ℕ) → is_blank s ≡ true → header_passes s ≡ false
 unfolding header_passes
 blank_fails s zeros =
-    let low : get_or s 12 0 ≡ 0 = sym (get_or-take 128 s 12 0 (lit< tt)) ∙ zero_byte (take 128 s) zeros 12 in
-    let high : get_or s 13 0 ≡ 0 = sym (get_or-take 128 s 13 0 (lit< tt)) ∙ zero_byte (take 128 s) zeros 13 in
-    let none : le16 s 12 ≡ 0 = let is = length_bytes s in omega arith in
+    let bytes = zero_length s zeros in
+    let none : le16 s 12 ≡ 0 = let is = length_bytes s in omega (arith, is, bytes.0, bytes.1) in
     ap (λ (n : ℕ). (nat_le 128 n && nat_le n (length s)) && (header_sum s n == le32 s 8)) none
 
 module _ (p : Pair) (x : SlotIndex) (i : SlotInfo) (leads : Leads p x i) where

@@ -1,3 +1,4 @@
+pub mod EveryLaws
 pub mod ByteLaws
 pub mod StatusLaws
 pub mod FrameLaws

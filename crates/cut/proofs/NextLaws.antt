@@ -25,7 +25,7 @@ use Rattle.slot.proofs.PaddingLaws.{header_same, check_same}
 use Rattle.cut.specs.Store.{Slot, Pair, accepts, slot_at, status, Typed, SoundSlot}
 use Rattle.cut.specs.Cut.{with_bytes, with_slot, stands_whole, header_passes, payload_in, payload_by}
 use Rattle.cut.proofs.StatusLaws.{false_true, passed_is, valid_is, passed_status}
-use Rattle.cut.proofs.PairLaws.{predecessor}
+use Rattle.cut.proofs.PairLaws.{other_other, predecessor}
 use Rattle.cut.proofs.CutLaws.{not_same, differ, Header, not_whole}
 use Rattle.cut.proofs.StateLaws.{Short, beside, asked, Leads, Fitting, Older, Resting, Flying, under_header, under_check, under_info, under_payload}
 
@@ -151,8 +151,7 @@ module _ (p : Pair) (c : List ℕ) where
   put_slots SlotIndex.B slots all SlotIndex.B = sound_put p.b (slots SlotIndex.B) all
 
 pub back_slot : (p : Pair) (o : SlotIndex) → slot_at (other (other o)) p ≡ slot_at o p
-back_slot p SlotIndex.A = refl
-back_slot p SlotIndex.B = refl
+back_slot p o = ap (λ (index : SlotIndex). slot_at index p) (other_other o)
 
 -- ---- the pair after the write
 

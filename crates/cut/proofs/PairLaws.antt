@@ -23,6 +23,10 @@ use Rattle.judge.specs.declared.verdict.SlotVerdict.{SlotVerdict}
 use Rattle.cut.specs.Store.{Slot, Pair, accepts, slot_at, status, report, slot_read, last_record, Beside, SoundPair}
 use Rattle.cut.specs.Cut.{PayloadIs}
 
+pub other_other : (index : SlotIndex) → other (other index) ≡ index
+other_other SlotIndex.A = refl
+other_other SlotIndex.B = refl
+
 -- What the judge is told of a slot and of a pair.
 abbrev pub shown_slot : Slot → Shown
 shown_slot s = shown_read (slot_read s)

@@ -6,7 +6,8 @@ use Rattle.slot.specs.Status.{other}
 use Rattle.slot.specs.Payload.{payload as payload_of}
 use Rattle.slot.specs.declared.slot.SlotIndex.{SlotIndex}
 use Rattle.slot.specs.declared.slot.SlotInfo.{SlotInfo}
-use Rattle.judge.specs.Numbers.{slots}
+use Rattle.judge.specs.Pairs.{numbered}
+use Rattle.judge.specs.Numbers.{number, slots}
 use Rattle.judge.specs.Verdict.{winner_beside, is_in_flight}
 use Rattle.judge.specs.Judge.{volume_verdict, mark_counts, judgement}
 use Rattle.judge.specs.Frames.{verdict_width}
@@ -15,15 +16,16 @@ use Rattle.judge.specs.declared.verdict.PairVerdict.{PairVerdict}
 use Rattle.cut.specs.Store.{Every, Slot, Pair, slot_at, shown, last_record, SoundPair, Sound}
 use Rattle.cut.specs.Cut.{Write, store, size, old, new, left, with_slot, after, next_number, Possible, CorrectWrite, whole, Accident, is_empty, handed, Survives, CutTheorem}
 use Rattle.cut.specs.Laws.{OlderSurvived}
+use Rattle.cut.proofs.EveryLaws.{every_split}
 use Rattle.cut.proofs.StatusLaws.{false_true}
 use Rattle.cut.proofs.JudgeLaws.{Quiet, quiet_explained, Explained, Healed, healed}
 use Rattle.cut.proofs.FrameLaws.{PairTyped}
-use Rattle.cut.proofs.PairLaws.{number_at, Stands}
+use Rattle.cut.proofs.PairLaws.{other_other, shown_slot, number_at, Stands}
 use Rattle.cut.proofs.NumberLaws.{in_highest, write_qualifies}
 use Rattle.cut.proofs.CutLaws.{none_of_either}
 use Rattle.cut.proofs.StateLaws.{Leads, Resting, rests, winner_number, resting_number, flies}
 use Rattle.cut.proofs.NextLaws.{Read, Next, kept_slot}
-use Rattle.cut.proofs.WriteLaws.{other_other, BesideWinner, sound_beside, sound_resting, last_before, old_is}
+use Rattle.cut.proofs.WriteLaws.{BesideWinner, sound_beside, sound_resting, last_before, old_is}
 use Rattle.cut.proofs.LeftLaws.{left_resting}
 use Rattle.cut.proofs.RowLaws.{Rested, rested_verdicts, leads_typed, stands_back, rule_at, heal_is, row_stands, all_rested, row_back}
 
@@ -43,20 +45,6 @@ row_unmarked Every.none mark index vs explained flight = flight_unmarked mark in
 row_unmarked (Every.more rested rest) mark index vs explained flight = refl
 
 -- ---- the pairs of the store
-
-every_before : {P : Pair → Type 0} (before ps : List Pair) → Every P (before ++ ps) → Every P before
-every_before [] ps all = Every.none
-every_before (p ∷ before) ps (Every.more first rest) = Every.more first (every_before before ps rest)
-
-pub every_behind : {P : Pair → Type 0} (before ps : List Pair) → Every P (before ++ ps) → Every P ps
-every_behind [] ps all = all
-every_behind (p ∷ before) ps (Every.more first rest) = every_behind before ps rest
-
-pub every_first : {P : Pair → Type 0} {p : Pair} {ps : List Pair} → Every P (p ∷ ps) → P p
-every_first (Every.more first rest) = first
-
-every_rest : {P : Pair → Type 0} {p : Pair} {ps : List Pair} → Every P (p ∷ ps) → Every P ps
-every_rest (Every.more first rest) = rest
 
 pub sound_pairs : {ps : List Pair} → Sound ps → Every SoundPair ps
 sound_pairs (Sound.row volume pages all) = all
@@ -125,11 +113,6 @@ module _ (p : Pair) (index : SlotIndex) (i : SlotInfo) (n : ℕ) (whole : Bool) 
       by_read record_is (Read.fresh stands) = written j leads resting record_is stands
       by_read record_is (Read.earlier torn among) = let none = among.1.0 in absurd (omega arith)
 
-kept_number : (index : SlotIndex) (bytes : List ℕ) (p : Pair)
-    → number_at (other index) (with_slot index bytes p) ≡ number_at (other index) p
-kept_number SlotIndex.A bytes p = refl
-kept_number SlotIndex.B bytes p = refl
-
 -- ---- the store after the cut
 
 module _ (w : Write) (sound_before : Every SoundPair w.before) (sound : SoundPair w.pair) (sound_behind : Every SoundPair w.behind)
@@ -157,7 +140,9 @@ module _ (w : Write) (sound_before : Every SoundPair w.before) (sound : SoundPai
 
   qualified : rule w.index (Some (next_number (store w) w.pair)) ≡ true
   qualified =
-      write_qualifies w.before w.pair p w.behind w.index (kept_number w.index (left w) w.pair) not_higher (next_number (store w) w.pair) refl
+      let kept : number_at (other w.index) p ≡ number_at (other w.index) w.pair =
+      ap (λ (s : Slot). number (numbered (shown_slot s))) (kept_slot w.pair (left w) w.index) in
+      write_qualifies w.before w.pair p w.behind w.index kept not_higher (next_number (store w) w.pair) refl
 
   below : i.meta_seq < next_number (store w) w.pair
   below =
@@ -213,9 +198,8 @@ module _ (w : Write) (sound_before : Every SoundPair w.before) (sound : SoundPai
 -- The store's clean mark plays no part: the judge is handed false, or a mark that meets no candidate.
 pub older_survived : OlderSurvived
 older_survived w sound no_mark correct possible none out room =
-    let all = sound_pairs sound in
-    let from_pair : Every SoundPair (w.pair ∷ w.behind) = every_behind w.before (w.pair ∷ w.behind) all in
-    survives w (every_before w.before (w.pair ∷ w.behind) all) (every_first from_pair) (every_rest from_pair) correct possible none out room
+    let all = every_split w.before w.pair w.behind (sound_pairs sound) in
+    survives w all.0 all.1 all.2 correct possible none out room
 
 -- Nor does what sectors add to the accidents.
 pub cut_theorem : CutTheorem

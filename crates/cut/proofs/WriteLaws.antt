@@ -28,10 +28,6 @@ use Rattle.cut.proofs.PairLaws.{last_is}
 use Rattle.cut.proofs.StateLaws.{Short, beside, Leads, Fitting, Resting, under_header, under_check, sound_leads, sound_rests, sound_won}
 use Rattle.cut.proofs.NextLaws.{length_short, back_slot}
 
-pub other_other : (index : SlotIndex) → other (other index) ≡ index
-other_other SlotIndex.A = refl
-other_other SlotIndex.B = refl
-
 expect_same : {v v' : List ℕ} {o o' s s' l l' f f' : ℕ} {x x' : SlotIndex} {n n' : Bool}
     → v ≡ v' → o ≡ o' → s ≡ s' → x ≡ x' → l ≡ l' → f ≡ f' → n ≡ n'
     → ◌≡◌ {A = Expect}

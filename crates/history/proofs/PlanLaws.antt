@@ -17,8 +17,9 @@ use Rattle.judge.specs.declared.verdict.Judgement.{Judgement}
 use Rattle.judge.proofs.SameLaws.{frames-are, row-is}
 use Rattle.cut.specs.Store.{Every, Pair, report, framed_pair, framed, shown, frames}
 use Rattle.cut.specs.Cut.{Tear, Write, store, next_number as next_number_of, CorrectWith}
+use Rattle.cut.proofs.EveryLaws.{every_split}
 use Rattle.cut.proofs.FrameLaws.{PairTyped, row_fits, judged_row}
-use Rattle.cut.proofs.WriteLaws.{other_other}
+use Rattle.cut.proofs.PairLaws.{other_other}
 use Rattle.cut.proofs.RowLaws.{rested_stands}
 use Rattle.plan.specs.Error.{unless_refused}
 use Rattle.plan.specs.Numbers.{after, highest_winner, next_number, heal_number}
@@ -36,7 +37,6 @@ use Rattle.history.specs.History.{Tracked, pairs, named, heal_number as heal_num
 use Rattle.history.specs.Laws.{NumbersAnswered, NumbersMeet, NumbersOfHistory, plan_of, AllowedIsPlanned, IsGiven, FreePlanIsAllowed, HealPlanIsAllowed}
 use Rattle.history.proofs.RowLaws.{rested_highest, others_are}
 use Rattle.history.proofs.States.{Rests, rested, all_rested, pairs_row, length_pairs, State, flies_stand, flies_number, flown_named, all_named, none_named, one_named}
-use Rattle.history.proofs.Steps.{every_split}
 use Rattle.history.proofs.Theorem.{reached_state}
 
 -- ---- nothing is refused

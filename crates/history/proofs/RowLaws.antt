@@ -12,7 +12,7 @@ use Rattle.judge.specs.declared.verdict.SlotVerdict.{SlotVerdict}
 use Rattle.judge.specs.declared.verdict.PairVerdict.{PairVerdict}
 use Rattle.cut.specs.Store.{Every, Pair, shown}
 use Rattle.cut.proofs.JudgeLaws.{quiet_explained, Explained, settled_none}
-use Rattle.cut.proofs.PairLaws.{shown_pair, number_at, Stands}
+use Rattle.cut.proofs.PairLaws.{other_other, shown_pair, number_at, Stands}
 use Rattle.cut.proofs.NumberLaws.{place_of, others_row}
 use Rattle.cut.proofs.StateLaws.{Leads, winner_number as leads_number, resting_number}
 use Rattle.cut.proofs.RowLaws.{Rested, quiet_of, rested_stands, rule_at, heal_is}
@@ -65,15 +65,11 @@ module _ {before behind : List Pair} (rest_before : Every Rested before) (rest_b
   pub winners_are : highest_winner (shown (before ++ p ∷ behind)) ≡ max (highest_winner (shown before)) (max i.meta_seq (highest_winner (shown behind)))
   winners_are = let row = winners_row before p behind in omega arith
 
-  back : (x : SlotIndex) → number_at (other (other x)) p ≡ number_at x p
-  back SlotIndex.A = refl
-  back SlotIndex.B = refl
-
   -- The highest of all slots but the one beside the winner is a winner's,
   pub others_are : highest_other (place_of (other x) (length before)) (slots (shown (before ++ p ∷ behind))) ≡ highest_winner (shown (before ++ p ∷ behind))
   others_are =
       let others = others_row before p behind (other x) in
-      let own = back x ∙ leads_number p x i leads in
+      let own = ap (λ (index : SlotIndex). number_at index p) (other_other x) ∙ leads_number p x i leads in
       let first = rested_highest rest_before in
       let last = rested_highest rest_behind in
       let winners = winners_are in

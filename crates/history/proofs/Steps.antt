@@ -17,30 +17,19 @@ use Rattle.judge.specs.Numbers.{slots, highest}
 use Rattle.pair.specs.Pair.{winner_info}
 use Rattle.cut.specs.Store.{Every, Slot, Pair, slot_at, status, report, shown, last_record, SoundPair}
 use Rattle.cut.specs.Cut.{Write, size, expect, old, new, left, with_bytes, with_slot, Possible, whole, header_passes, payload_in}
+use Rattle.cut.proofs.EveryLaws.{every_split, every_join}
 use Rattle.cut.proofs.StatusLaws.{false_true, passed_is}
-use Rattle.cut.proofs.PairLaws.{shown_pair, last_is}
+use Rattle.cut.proofs.PairLaws.{other_other, shown_pair, last_is}
 use Rattle.cut.proofs.CutLaws.{differ, not_same, not_whole}
 use Rattle.cut.proofs.StateLaws.{Short, beside, asked, Leads, Older, Resting, Flying, failing_status, passing_status, under_check, under_payload, sound_leads, sound_rests}
 use Rattle.cut.proofs.NextLaws.{among_first, among_later, kept_slot, put_slot, back_slot, front_passes, Read, Next, on_older}
-use Rattle.cut.proofs.WriteLaws.{other_other, BesideWinner, old_is, new_header, fitting}
+use Rattle.cut.proofs.WriteLaws.{BesideWinner, old_is, new_header, fitting}
 use Rattle.cut.proofs.LeftLaws.{blank_fails, resting_short, flying_short, finished_wins, left_size, left_short, left_bytes, left_resting, left_flying}
 use Rattle.cut.proofs.RowLaws.{rested_stands}
 use Rattle.plan.specs.Numbers.{winner_number, highest_winner}
 use Rattle.history.specs.History.{Past, Tracked, pairs, past, standing, past_of, started, named, Turn, Allowed, same_header, under_after, valid_after, past_after, HarmfulAccident, tracked, Put, write_to, finished, torn_by}
 use Rattle.history.proofs.RowLaws.{stands_number, rested_highest, winners_are}
 use Rattle.history.proofs.States.{OlderVersion, Led, Rests, Flies, rested, all_rested, pairs_row, top, State, flies_stand, flies_number, flown_named, all_named, length_pairs, none_named, one_named}
-
--- ---- a row taken apart
-
-pub every_split : {P : Tracked → Type 0} (before : List Tracked) (t : Tracked) (behind : List Tracked) → Every P (before ++ t ∷ behind)
-    → Every P before × P t × Every P behind
-every_split [] t behind (Every.more first rest) = (Every.none, first, rest)
-every_split (q ∷ before) t behind (Every.more first rest) = let all = every_split before t behind rest in (Every.more first all.0, all.1, all.2)
-
-every_join : {P : Tracked → Type 0} {before : List Tracked} {t : Tracked} {behind : List Tracked} → Every P before → P t → Every P behind
-    → Every P (before ++ t ∷ behind)
-every_join Every.none here rest = Every.more here rest
-every_join (Every.more first all) here rest = Every.more first (every_join all here rest)
 
 some_row : (before : List Tracked) (t : Tracked) (behind : List Tracked) → 1 ≤ length (before ++ t ∷ behind)
 some_row before t behind = let all = length-append before (t ∷ behind) in omega arith
@@ -174,8 +163,7 @@ flying_kept SlotIndex.A c after known t i n flying = flying
 flying_kept SlotIndex.B c after known t i n flying = flying
 
 past_back : (index : SlotIndex) (t : Tracked) → past (other (other index)) t ≡ past index t
-past_back SlotIndex.A t = refl
-past_back SlotIndex.B t = refl
+past_back index t = ap (λ (x : SlotIndex). past x t) (other_other index)
 
 read_known : {whole : Bool} (r : List ℕ) (known : List (List ℕ)) {q : List ℕ} → Read whole r known q → IsAmong (r ∷ known) q
 read_known r known (Read.fresh stands) = among_first r known

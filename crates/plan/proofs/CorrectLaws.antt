@@ -21,9 +21,10 @@ use Rattle.judge.specs.declared.pairs.Pair.{Pair as ShownPair}
 use Rattle.cut.specs.Store.{Every, Pair, accepts, slot_at, report, framed_pair, framed, shown, frames, SoundPair}
 use Rattle.cut.specs.Cut.{Tear, Ascending, Sectors, old, new, left, CorrectWith, AccidentBy}
 use Rattle.cut.proofs.FrameLaws.{PairTyped, row_fits}
+use Rattle.cut.proofs.EveryLaws.{every_split}
+use Rattle.cut.proofs.PairLaws.{other_other}
 use Rattle.cut.proofs.StateLaws.{sound_won}
-use Rattle.cut.proofs.WriteLaws.{other_other}
-use Rattle.cut.proofs.Theorem.{cut_theorem, every_behind, every_first, sound_pairs}
+use Rattle.cut.proofs.Theorem.{cut_theorem, sound_pairs}
 use Rattle.plan.specs.declared.error.PlanError.{PlanError}
 use Rattle.plan.specs.declared.write.Plan.{Plan}
 use Rattle.plan.specs.Pairs.{frame_report}
@@ -171,7 +172,7 @@ survives_cuts given i a b owner compat payload buffer written answer owner_fits 
     let here : plan_write (frames (before ++ p ∷ behind)) (length before) ≡ Ok (Some plan) =
     ap₂ plan_write (sym asked.frames_are) (sym asked.place) ∙ known.is in
     let all = sound_pairs asked.sound in
-    let pair_sound : SoundPair p = every_first (every_behind before (p ∷ behind) all) in
+    let pair_sound : SoundPair p = (every_split before p behind all).1 in
     let correct =
     planned_is_correct before p behind (pair_sound.newer, pair_sound.info) plan owner compat payload buffer tear (numbered_pairs all)
     (sound_won p pair_sound)

@@ -6,38 +6,35 @@ use Rattle.slot.specs.Laws.{info_of}
 use Rattle.slot.specs.declared.slot.SlotIndex.{SlotIndex}
 use Rattle.cut.specs.Store.{Every, Slot, Pair, accepts, slot_at, status, Beside, SoundPair, IsPage, Sound}
 use Rattle.cut.specs.Cut.{Write, store, new, with_slot, next_number, CorrectWrite}
+use Rattle.cut.proofs.EveryLaws.{every_split, every_join}
 use Rattle.cut.proofs.PairLaws.{last_is}
 use Rattle.cut.proofs.NumberLaws.{in_highest}
 use Rattle.cut.proofs.StateLaws.{Leads, Resting, winner_number}
 use Rattle.cut.proofs.NextLaws.{kept_slot, put_decoder}
 use Rattle.cut.proofs.WriteLaws.{BesideWinner, sound_beside}
 use Rattle.cut.proofs.LeftLaws.{finished_wins}
-use Rattle.cut.proofs.Theorem.{every_behind, every_first, sound_pairs}
+use Rattle.cut.proofs.Theorem.{sound_pairs}
 use Rattle.plan.specs.Promise.{finished_pair, FinishedIsSound}
 
 -- ---- one pair in the place of another
-
-every_put : {P : Pair → Type 0} (before : List Pair) (p q : Pair) (behind : List Pair) → Every P (before ++ p ∷ behind) → P q → Every P (before ++ q ∷ behind)
-every_put [] p q behind (Every.more first rest) here = Every.more here rest
-every_put (x ∷ before) p q behind (Every.more first rest) here = Every.more first (every_put before p q behind rest here)
 
 page_kept : (index : SlotIndex) (s : List ℕ) (p : Pair) → IsPage p → IsPage (with_slot index s p)
 page_kept index s p page = record { index = page.index; most = page.most; decoder = put_decoder p s index ∙ page.decoder }
 
 sound_put : (before : List Pair) (p : Pair) (behind : List Pair) (index : SlotIndex) (s : List ℕ) → Sound (before ++ p ∷ behind)
     → SoundPair (with_slot index s p) → Sound (before ++ with_slot index s p ∷ behind)
-sound_put [] p behind index s (Sound.row volume pages all) here =
-    Sound.row (put_decoder p s index ∙ volume) pages (every_put [] p (with_slot index s p) behind all here)
-sound_put (q ∷ before) p behind index s (Sound.row volume pages all) here =
-    Sound.row volume
-    (every_put before p (with_slot index s p) behind pages (page_kept index s p (every_first (every_behind before (p ∷ behind) pages))))
-    (every_put (q ∷ before) p (with_slot index s p) behind all here)
+sound_put [] p behind index s (Sound.row volume pages (Every.more first rest)) here =
+    Sound.row (put_decoder p s index ∙ volume) pages (Every.more here rest)
+sound_put (q ∷ before) p behind index s (Sound.row volume pages (Every.more first all)) here =
+    let page = every_split before p behind pages in
+    let rest = every_split before p behind all in
+    Sound.row volume (every_join page.0 (page_kept index s p page.1) page.2) (Every.more first (every_join rest.0 here rest.2))
 
 -- ---- the written pair
 
 module _ (w : Write) (sound : Sound (store w)) (correct : CorrectWrite w) where
   pair_sound : SoundPair w.pair
-  pair_sound = every_first (every_behind w.before (w.pair ∷ w.behind) (sound_pairs sound))
+  pair_sound = (every_split w.before w.pair w.behind (sound_pairs sound)).1
 
   abbrev made : BesideWinner (next_number (store w) w.pair) w
   made = sound_beside w pair_sound correct
