@@ -15,8 +15,8 @@ use Rattle.judge.specs.declared.pairs.Pair.{Pair as ShownPair}
 use Rattle.judge.specs.declared.verdict.JudgeError.{JudgeError}
 use Rattle.judge.specs.declared.verdict.Judgement.{Judgement}
 use Rattle.judge.proofs.SameLaws.{frames-are, row-is}
-use Rattle.cut.specs.Store.{Every, Pair, report, framed_pair, framed, shown, frames}
-use Rattle.cut.specs.Cut.{Tear, Write, store, next_number as next_number_of, CorrectWith}
+use Rattle.cut.specs.Store.{Every, Pair, clean_mark, report, framed_pair, framed, shown, frames}
+use Rattle.cut.specs.Cut.{Tear, Write, store, next_number as next_number_of, CorrectWith, is_empty}
 use Rattle.cut.proofs.EveryLaws.{every_split}
 use Rattle.cut.proofs.FrameLaws.{PairTyped, row_fits, judged_row}
 use Rattle.cut.proofs.PairLaws.{other_other}
@@ -26,7 +26,7 @@ use Rattle.plan.specs.Numbers.{after, highest_winner, next_number, heal_number}
 use Rattle.plan.specs.Pairs.{frame_report}
 use Rattle.plan.specs.Plan.{followed, plan_at, some_plan, plan_next, plan_for, plan_write}
 use Rattle.plan.specs.Heal.{place, with_pair, heal_in, heal_for, plan_heal}
-use Rattle.plan.specs.Promise.{NumberedPair, write_of}
+use Rattle.plan.specs.Promise.{NumberedPair, write_of, IsGiven}
 use Rattle.plan.specs.declared.write.Plan.{Plan}
 use Rattle.plan.proofs.PlanLaws.{Has, next_of_winner}
 use Rattle.plan.proofs.HealLaws.{planned}
@@ -34,7 +34,7 @@ use Rattle.plan.proofs.ReportLaws.{held_report, winner_held, followed_held}
 use Rattle.plan.proofs.FrameLaws.{frame_reports, frame_at, fits_at}
 use Rattle.plan.proofs.CorrectLaws.{all_typed, given_correct, planned_is_correct}
 use Rattle.history.specs.History.{Tracked, pairs, named, heal_number as heal_number_of, Turn, Allowed, Put, write_to}
-use Rattle.history.specs.Laws.{NumbersAnswered, NumbersMeet, NumbersOfHistory, plan_of, AllowedIsPlanned, IsGiven, FreePlanIsAllowed, HealPlanIsAllowed}
+use Rattle.history.specs.Laws.{NumbersAnswered, NumbersMeet, NumbersOfHistory, plan_of, AllowedIsPlanned, FreePlanIsAllowed, HealPlanIsAllowed}
 use Rattle.history.proofs.RowLaws.{rested_highest, others_are}
 use Rattle.history.proofs.States.{Rests, rested, all_rested, pairs_row, length_pairs, State, flies_stand, flies_number, flown_named, all_named, none_named, one_named}
 use Rattle.history.proofs.Theorem.{reached_state}
@@ -242,7 +242,8 @@ allowed_is_planned before t behind q reached allowed =
 
 module _ (before : List Tracked) (t : Tracked) (behind : List Tracked) (plan : Plan) (owner compat : ℕ) (payload buffer : List ℕ) (tear : Tear)
     (state : State (before ++ t ∷ behind))
-    (given : IsGiven (write_of (pairs before) t.pair (pairs behind) plan owner compat payload buffer tear)) where
+    (given : IsGiven (write_of (pairs before) t.pair (pairs behind) plan owner compat payload buffer tear))
+    (unmarked : is_empty (pairs before) ≡ true → clean_mark payload ≡ false) where
   abbrev written : Write
   written = write_of (pairs before) t.pair (pairs behind) plan owner compat payload buffer tear
 
@@ -259,8 +260,8 @@ module _ (before : List Tracked) (t : Tracked) (behind : List Tracked) (plan : P
             (numbered before t behind state)
             (rested_stands (rested rests) (λ index number. true)).won
             (ap₂ (λ (row : List Pair) (k : ℕ). plan_write (frames row) k) (sym (pairs_row before t behind)) (length_pairs before) ∙ is)
-            given.owner given.compat given.bytes given.accepted given.fits given.room;
-        unmarked = given.unmarked;
+            given;
+        unmarked = unmarked;
       }
 
   healing_allowed : plan_heal (frames (pairs (before ++ t ∷ behind))) 0 ≡ Ok (Some (length before, plan))
@@ -291,14 +292,14 @@ module _ (before : List Tracked) (t : Tracked) (behind : List Tracked) (plan : P
         correct =
             subst (λ (n : ℕ). CorrectWith (n + 1) written) (meets.healing (length (pairs before)) plan.index is_named)
             (given_correct (pairs before) t.pair (pairs behind) (here.fly.x, here.fly.i) plan owner compat payload buffer tear (Some plan.index) most won
-            (sym here.beside) has given.owner given.compat given.bytes given.accepted given.fits given.room);
-        unmarked = given.unmarked;
+            (sym here.beside) has given);
+        unmarked = unmarked;
       }
 
 pub free_plan_is_allowed : FreePlanIsAllowed
-free_plan_is_allowed before t behind plan owner compat payload buffer tear reached given =
-    free_allowed before t behind plan owner compat payload buffer tear (reached_state reached) given
+free_plan_is_allowed before t behind plan owner compat payload buffer tear reached given unmarked =
+    free_allowed before t behind plan owner compat payload buffer tear (reached_state reached) given unmarked
 
 pub heal_plan_is_allowed : HealPlanIsAllowed
-heal_plan_is_allowed before t behind plan owner compat payload buffer tear reached given =
-    healing_allowed before t behind plan owner compat payload buffer tear (reached_state reached) given
+heal_plan_is_allowed before t behind plan owner compat payload buffer tear reached given unmarked =
+    healing_allowed before t behind plan owner compat payload buffer tear (reached_state reached) given unmarked

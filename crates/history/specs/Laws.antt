@@ -1,22 +1,21 @@
 -- Laws on the words of the theorem over histories (docs/FORMAT.md, "A history of writes"): what is known, what is no accident and which of
 -- them it needs, which slot is named, which number a write has, and that the functions which plan a write plan those of a history. Each is
 -- the contract of a function.
-use Rattle.std.specs.Prelude.{◌≡◌, ◌⊎◌, true, false, Some, None, Ok, List, [], ◌∷◌, ◌++◌, ℕ, ◌+◌, ◌*◌, ◌^◌, ◌≤◌, ◌<◌, length, take, map}
+use Rattle.std.specs.Prelude.{◌≡◌, ◌⊎◌, true, false, Some, None, Ok, List, [], ◌∷◌, ◌++◌, ℕ, ◌+◌, ◌*◌, ◌≤◌, length, take, map}
 use Rattle.std.specs.List.{IsAmong}
-use Rattle.codec.specs.Bytes.{AllBytes}
 use Rattle.slot.specs.Write.{header_crc}
 use Rattle.slot.specs.declared.slot.SlotIndex.{SlotIndex}
 use Rattle.slot.specs.declared.slot.SlotInfo.{SlotInfo}
 use Rattle.judge.specs.Numbers.{slots, highest, highest_other}
 use Rattle.judge.specs.Frames.{verdict_width}
 use Rattle.judge.specs.declared.verdict.PairVerdict.{PairVerdict}
-use Rattle.cut.specs.Store.{Every, Pair, accepts, clean_mark, slot_at, shown, last_record, frames, Sound}
+use Rattle.cut.specs.Store.{Every, Pair, clean_mark, shown, last_record, frames, Sound}
 use Rattle.cut.specs.Cut.{Tear, Write, store, size, old, new, left, Possible, header_passes, is_empty, PayloadIs}
 use Rattle.plan.specs.declared.write.Plan.{Plan}
 use Rattle.plan.specs.Numbers.{after, highest_winner, next_number, heal_number}
 use Rattle.plan.specs.Plan.{plan_write}
 use Rattle.plan.specs.Heal.{place, plan_heal}
-use Rattle.plan.specs.Promise.{NumberedPair, write_of}
+use Rattle.plan.specs.Promise.{NumberedPair, write_of, IsGiven}
 use Rattle.history.specs.History.{Past, Tracked, past, pairs, standing, started, named, Allowed, HistoryAccident, HarmfulAccident, Put, write_to, finished, torn_by, Reached, ReadKnown, Promised}
 
 -- ---- what is known
@@ -104,22 +103,13 @@ AllowedIsPlanned =
     (before : List Tracked) (t : Tracked) (behind : List Tracked) (q : Put) → Reached HarmfulAccident (before ++ t ∷ behind)
     → Allowed (write_to before t behind q) → IsPlanned (write_to before t behind q)
 
--- What is planned is a write of a history, with fields within their types, an acceptable payload that fits and sets no mark, and a buffer
--- of the slot's size.
-pub record IsGiven (w : Write) : Type 0 where
-  pub owner : w.fields.owner_generation < 2 ^ 64
-  pub compat : w.fields.compat_flags < 2 ^ 32
-  pub bytes : AllBytes w.payload
-  pub accepted : accepts w.pair.decoder w.payload ≡ true
-  pub fits : 128 + length w.payload ≤ 2 ^ (slot_at w.index w.pair).expect.log2_slot_size
-  pub room : length w.buffer ≡ 2 ^ (slot_at w.index w.pair).expect.log2_slot_size
-  pub unmarked : is_empty w.before ≡ true → clean_mark w.payload ≡ false
-
+-- What is planned is a write of a history, with what a planned write is given and a payload that sets no mark.
 abbrev pub FreePlanIsAllowed : Type 0
 FreePlanIsAllowed =
     (before : List Tracked) (t : Tracked) (behind : List Tracked) (plan : Plan) (owner compat : ℕ) (payload buffer : List ℕ) (tear : Tear)
     → Reached HarmfulAccident (before ++ t ∷ behind)
     → IsGiven (write_of (pairs before) t.pair (pairs behind) plan owner compat payload buffer tear)
+    → (is_empty (pairs before) ≡ true → clean_mark payload ≡ false)
     → named (pairs (before ++ t ∷ behind)) ≡ None
     → plan_write (frames (pairs (before ++ t ∷ behind))) (length before) ≡ Ok (Some plan)
     → Allowed (write_of (pairs before) t.pair (pairs behind) plan owner compat payload buffer tear)
@@ -129,5 +119,6 @@ HealPlanIsAllowed =
     (before : List Tracked) (t : Tracked) (behind : List Tracked) (plan : Plan) (owner compat : ℕ) (payload buffer : List ℕ) (tear : Tear)
     → Reached HarmfulAccident (before ++ t ∷ behind)
     → IsGiven (write_of (pairs before) t.pair (pairs behind) plan owner compat payload buffer tear)
+    → (is_empty (pairs before) ≡ true → clean_mark payload ≡ false)
     → plan_heal (frames (pairs (before ++ t ∷ behind))) 0 ≡ Ok (Some (length before, plan))
     → Allowed (write_of (pairs before) t.pair (pairs behind) plan owner compat payload buffer tear)

@@ -1,5 +1,5 @@
 -- A planned write is a correct write, and so the cut theorem is about it.
-use Rattle.std.proofs.Common.{◌≡◌, refl, sym, ap, ap₂, subst, ◌∙◌, true, List, ◌∷◌, ◌++◌, ℕ, ◌+◌, ◌^◌, ◌≤◌, ◌<◌, arith, length, Option, Some, None, Result, Ok, Err}
+use Rattle.std.proofs.Common.{◌≡◌, refl, sym, ap, ap₂, subst, ◌∙◌, List, ◌∷◌, ◌++◌, ℕ, ◌+◌, ◌^◌, ◌≤◌, ◌<◌, arith, length, Option, Some, None, Result, Ok, Err}
 use Rattle.std.proofs.lemmas.Option.{some_pair_parts, same_Some}
 use Rattle.codec.specs.Bytes.{AllBytes}
 use Rattle.slot.specs.Status.{other}
@@ -18,7 +18,7 @@ use Rattle.judge.specs.Frames.{row}
 use Rattle.judge.specs.Same.{AllFit, frame_of}
 use Rattle.judge.proofs.SameLaws.{row-is}
 use Rattle.judge.specs.declared.pairs.Pair.{Pair as ShownPair}
-use Rattle.cut.specs.Store.{Every, Pair, accepts, slot_at, report, framed_pair, framed, shown, frames, SoundPair}
+use Rattle.cut.specs.Store.{Every, Pair, slot_at, report, framed_pair, framed, shown, frames, SoundPair}
 use Rattle.cut.specs.Cut.{Tear, Ascending, Sectors, old, new, left, CorrectWith, AccidentBy}
 use Rattle.cut.proofs.FrameLaws.{PairTyped, row_fits}
 use Rattle.cut.proofs.EveryLaws.{every_split}
@@ -30,7 +30,7 @@ use Rattle.plan.specs.declared.write.Plan.{Plan}
 use Rattle.plan.specs.Pairs.{frame_report}
 use Rattle.plan.specs.Plan.{followed, plan_write}
 use Rattle.plan.specs.Next.{fields_of, encoded, write_by, next_write as next_by}
-use Rattle.plan.specs.Promise.{NumberedPair, write_of, PlannedIsCorrect, Answer, SurvivesCuts, BothKindsSurvived}
+use Rattle.plan.specs.Promise.{NumberedPair, write_of, IsGiven, PlannedIsCorrect, Answer, SurvivesCuts, BothKindsSurvived}
 use Rattle.plan.proofs.PlanLaws.{Has, plan_has, planned_frame, next_of_winner}
 use Rattle.plan.proofs.ReportLaws.{held_report, winner_held, followed_held}
 use Rattle.plan.proofs.FrameLaws.{frame_reports, frame_at, fits_at}
@@ -45,14 +45,9 @@ pub given_correct : (before : List Pair) (p : Pair) (behind : List Pair) (won : 
     → winner_info (report p) ≡ Some won
     → plan.index ≡ other won.0
     → Has next (won.1.generation, won.1.header_crc32c) most plan
-    → owner < 2 ^ 64
-    → compat < 2 ^ 32
-    → AllBytes payload
-    → accepts p.decoder payload ≡ true
-    → 128 + length payload ≤ 2 ^ (slot_at plan.index p).expect.log2_slot_size
-    → length buffer ≡ 2 ^ (slot_at plan.index p).expect.log2_slot_size
+    → IsGiven (write_of before p behind plan owner compat payload buffer tear)
     → CorrectWith (most + 1) (write_of before p behind plan owner compat payload buffer tear)
-given_correct before p behind won plan owner compat payload buffer tear next most won_is index_is has owner_fits compat_fits bytes accepts_it fits room =
+given_correct before p behind won plan owner compat payload buffer tear next most won_is index_is has given =
     let beside : won.0 ≡ other plan.index = sym (other_other won.0) ∙ ap other (sym index_is) in
     record {
       winner = won.1;
@@ -68,16 +63,16 @@ given_correct before p behind won plan owner compat payload buffer tear next mos
       prev = has.prev;
       number = has.number;
       number_fits = has.number_fits;
-      owner = owner_fits;
-      compat = compat_fits;
-      bytes = bytes;
-      accepted = accepts_it;
-      fits = fits;
-      room = room;
+      owner = given.owner;
+      compat = given.compat;
+      bytes = given.bytes;
+      accepted = given.accepted;
+      fits = given.fits;
+      room = given.room;
     }
 
 pub planned_is_correct : PlannedIsCorrect
-planned_is_correct before p behind won plan owner compat payload buffer tear numbered won_is is owner_fits compat_fits bytes accepts_it fits room =
+planned_is_correct before p behind won plan owner compat payload buffer tear numbered won_is is given =
     let ps : List Pair = before ++ p ∷ behind in
     let all_fit : AllFit (framed ps) = row_fits (all_typed numbered) in
     let f : List ℕ = frame_of (framed_pair p) in
@@ -93,7 +88,7 @@ planned_is_correct before p behind won plan owner compat payload buffer tear num
     (same_Some plan.index (other won.0) next)
     (subst (λ (r : ℕ × ℕ). Has (next_write (frame_report f)) r (highest (slots (shown ps))) plan) follows
     (subst (λ (most : ℕ). Has (next_write (frame_report f)) (followed (frame_report f)) most plan) tops has))
-    owner_fits compat_fits bytes accepts_it fits room
+    given
 
 -- ---- where a plan is answered, its bytes were written
 
@@ -176,7 +171,8 @@ survives_cuts given i a b owner compat payload buffer written answer owner_fits 
     let correct =
     planned_is_correct before p behind (pair_sound.newer, pair_sound.info) plan owner compat payload buffer tear (numbered_pairs all)
     (sound_won p pair_sound)
-    here owner_fits compat_fits bytes asked.accepted fits taken.size in
+    here
+    (record { owner = owner_fits; compat = compat_fits; bytes = bytes; accepted = asked.accepted; fits = fits; room = taken.size }) in
     let same : new w ≡ written =
     ap (λ (e : Expect). (encode (fields_of plan e owner compat) payload buffer).0) same_expect ∙ sym known.bytes in (
       same,

@@ -32,20 +32,23 @@ write_of before p behind plan owner compat payload buffer tear =
       tear = tear;
     }
 
--- Over any store of such pairs, in any state: where the pair has a winner, a planned write with fields within their types, an acceptable
--- payload that fits and a buffer of the slot's size is correct.
+-- What is given with a plan: fields within their types, an acceptable payload that fits and a buffer of the slot's size.
+pub record IsGiven (w : Write) : Type 0 where
+  pub owner : w.fields.owner_generation < 2 ^ 64
+  pub compat : w.fields.compat_flags < 2 ^ 32
+  pub bytes : AllBytes w.payload
+  pub accepted : accepts w.pair.decoder w.payload ≡ true
+  pub fits : 128 + length w.payload ≤ 2 ^ (slot_at w.index w.pair).expect.log2_slot_size
+  pub room : length w.buffer ≡ 2 ^ (slot_at w.index w.pair).expect.log2_slot_size
+
+-- Over any store of such pairs, in any state: where the pair has a winner, a planned write with these is correct.
 abbrev pub PlannedIsCorrect : Type 0
 PlannedIsCorrect =
     (before : List Pair) (p : Pair) (behind : List Pair) (won : SlotIndex × SlotInfo) (plan : Plan) (owner compat : ℕ) (payload buffer : List ℕ) (tear : Tear)
     → Every NumberedPair (before ++ p ∷ behind)
     → winner_info (report p) ≡ Some won
     → plan_write (frames (before ++ p ∷ behind)) (length before) ≡ Ok (Some plan)
-    → owner < 2 ^ 64
-    → compat < 2 ^ 32
-    → AllBytes payload
-    → accepts p.decoder payload ≡ true
-    → 128 + length payload ≤ 2 ^ (slot_at plan.index p).expect.log2_slot_size
-    → length buffer ≡ 2 ^ (slot_at plan.index p).expect.log2_slot_size
+    → IsGiven (write_of before p behind plan owner compat payload buffer tear)
     → CorrectWrite (write_of before p behind plan owner compat payload buffer tear)
 
 -- What is answered where a next write is asked for: the plan and the header's checksum, or nothing, or a refusal.
