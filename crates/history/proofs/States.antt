@@ -227,6 +227,7 @@ promised ts state out room unmarked =
       verdict = seen.verdict;
       judgement = judgement (shown (pairs ts)) false;
       judged = seen.judged;
+      heal = refl;
       back = seen.back;
       unmarked = unmarked seen.verdict seen.back;
     }

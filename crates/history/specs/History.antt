@@ -192,6 +192,8 @@ pub record Promised (ts : List Tracked) (out : List ℕ) : Type 0 where
   pub verdict : List PairVerdict
   pub judgement : Judgement
   pub judged : Confirmed (pairs ts) false out verdict judgement
+  -- The slot that it names is the one by which the next write goes.
+  pub heal : judgement.heal ≡ named (pairs ts)
   pub back : AllReadKnown ts verdict
   pub unmarked : VolumeUnmarked (pairs ts)
 
