@@ -122,6 +122,9 @@ bytes_typed s bytes typed all =
       prev = typed.prev;
     }
 
+pub back_slot : (p : Pair) (o : SlotIndex) → slot_at (other (other o)) p ≡ slot_at o p
+back_slot p o = ap (λ (index : SlotIndex). slot_at index p) (other_other o)
+
 module _ (p : Pair) (c : List ℕ) where
   pub kept_slot : (o : SlotIndex) → slot_at (other o) (with_slot o c p) ≡ slot_at (other o) p
   kept_slot SlotIndex.A = refl
@@ -133,8 +136,7 @@ module _ (p : Pair) (c : List ℕ) where
 
   -- The same, from the winner.
   put_beside : (o : SlotIndex) → slot_at (other (other o)) (with_slot o c p) ≡ with_bytes c (slot_at (other (other o)) p)
-  put_beside SlotIndex.A = refl
-  put_beside SlotIndex.B = refl
+  put_beside o = back_slot (with_slot o c p) o ∙ put_slot o ∙ ap (with_bytes c) (sym (back_slot p o))
 
   pub put_decoder : (o : SlotIndex) → (with_slot o c p).decoder ≡ p.decoder
   put_decoder SlotIndex.A = refl
@@ -149,9 +151,6 @@ module _ (p : Pair) (c : List ℕ) where
   put_slots SlotIndex.A slots all SlotIndex.B = slots SlotIndex.B
   put_slots SlotIndex.B slots all SlotIndex.A = slots SlotIndex.A
   put_slots SlotIndex.B slots all SlotIndex.B = sound_put p.b (slots SlotIndex.B) all
-
-pub back_slot : (p : Pair) (o : SlotIndex) → slot_at (other (other o)) p ≡ slot_at o p
-back_slot p o = ap (λ (index : SlotIndex). slot_at index p) (other_other o)
 
 -- ---- the pair after the write
 

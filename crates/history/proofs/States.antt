@@ -1,7 +1,8 @@
 -- A store through a history: every pair rests, or one is in flight among those that rest. What that gives: the store is judged as promised,
 -- and what is read is known.
-use Rattle.std.proofs.Common.{◌≡◌, refl, sym, ap, subst, ◌∙◌, Bool, true, false, List, [], ◌∷◌, ◌++◌, ℕ, suc, ◌+◌, ◌*◌, ◌≤◌, arith, length, Option, Some, None}
+use Rattle.std.proofs.Common.{◌≡◌, refl, sym, ap, subst, ◌∙◌, Bool, true, false, List, [], ◌∷◌, ◌++◌, ℕ, ◌+◌, ◌*◌, ◌≤◌, arith, length, Option, Some, None}
 use Rattle.std.specs.List.{IsAmong}
+use Rattle.std.proofs.lemmas.List.{map-append, length-map}
 use Rattle.std.proofs.lemmas.Option.{some_pair_parts}
 use Rattle.slot.specs.Status.{other}
 use Rattle.slot.specs.Payload.{payload as payload_of}
@@ -63,12 +64,10 @@ all_rested (Every.more rests rest) = Every.more (rested rests) (all_rested rest)
 
 pub pairs_row : (before : List Tracked) (t : Tracked) (behind : List Tracked)
     → pairs (before ++ t ∷ behind) ≡ pairs before ++ t.pair ∷ pairs behind
-pairs_row [] t behind = refl
-pairs_row (q ∷ before) t behind = ap (λ (ps : List Pair). q.pair ∷ ps) (pairs_row before t behind)
+pairs_row before t behind = map-append (λ (t : Tracked). t.pair) before (t ∷ behind)
 
 pub length_pairs : (ts : List Tracked) → length (pairs ts) ≡ length ts
-length_pairs [] = refl
-length_pairs (t ∷ ts) = ap suc (length_pairs ts)
+length_pairs ts = length-map ts (λ (t : Tracked). t.pair)
 
 -- The number of a write that heals, of the pair t between these.
 abbrev pub top : List Tracked → Pair → List Tracked → ℕ
