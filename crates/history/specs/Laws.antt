@@ -1,7 +1,7 @@
 -- Laws on the words of the theorem over histories (docs/FORMAT.md, "A history of writes"): what is known, what is no accident and which of
 -- them it needs, which slot is named, which number a write has, and that the functions which plan a write plan those of a history. Each is
 -- the contract of a function.
-use Rattle.std.specs.Prelude.{◌≡◌, ◌⊎◌, true, false, Some, None, Ok, List, [], ◌∷◌, ◌++◌, ℕ, ◌+◌, ◌*◌, ◌≤◌, length, take, map}
+use Rattle.std.specs.Prelude.{◌≡◌, ◌⊎◌, true, false, Some, None, Ok, List, [], ◌∷◌, ◌++◌, ℕ, ◌*◌, ◌≤◌, length, take, map}
 use Rattle.std.specs.List.{IsAmong}
 use Rattle.slot.specs.Write.{header_crc}
 use Rattle.slot.specs.declared.slot.SlotIndex.{SlotIndex}
