@@ -621,8 +621,9 @@ uint32_t sio_next_write(const uint8_t *frames, size_t frames_len, size_t pair, u
 
 /* ---- Region names ----
  *
- * A name is 1 to 24 bytes of UTF-8 (RFC 3629) without a zero byte, stored in 24 bytes with zeros after it. Bytes that are
- * none are refused with 35, and *stored and *stored_len are as they were.
+ * A name is 1 to 24 bytes of UTF-8 (RFC 3629), none of them below 0x20 and none 0x7F, stored in 24 bytes with zeros after it.
+ * Bytes that are none are refused with 35, and *stored and *stored_len are as they were. The functions on entries go by the
+ * same rule; those on pages look at no name.
  */
 
 /* Stores a name and gives its length. */

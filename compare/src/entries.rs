@@ -6,8 +6,8 @@ use crate::entry_faults::{set_some_number, FAULTS};
 use crate::entry_sample::{accepted, any_entry, any_limits, near_blocks, Case, EDGES};
 use crate::ffi_table::{self as ffi, Entry, Limits};
 use crate::lent::{Lent, LentCell};
-use crate::meta_reference::NO_NAME;
-use crate::outcome::{answer, filled, kept, refusal, Call, Expected};
+use crate::meta_reference::{Names, NO_NAME};
+use crate::outcome::{answer, count_other, filled, kept, refusal, Call, Expected};
 use crate::page_sample::ENTRY;
 use crate::part::{number, Checked, Fields, Part, Run};
 use crate::places::places;
@@ -21,6 +21,10 @@ const TO_RAW: &str = "sio_entry_to_raw";
 const NAME: &str = "sio_entry_name";
 const NAME_AND_KIND: &str = "sio_entry_name_and_kind";
 const SPAN: &str = "sio_reserved_span";
+const CHECK_OTHER: &str = "sio_check_entry: the Rust's other answer";
+const TO_RAW_OTHER: &str = "sio_entry_to_raw: the Rust's other answer";
+const NAME_OTHER: &str = "sio_entry_name: the Rust's other answer";
+const NAME_AND_KIND_OTHER: &str = "sio_entry_name_and_kind: the Rust's other answer";
 pub const PLACE: &str = "sio_check_entry: refused for";
 
 const WHOLE: &[Answer] = &[Answer::Done, Answer::Refusal(11)];
@@ -41,6 +45,19 @@ const CHECKS: &[Answer] = &[
     Answer::Refusal(41),
     Answer::Refusal(42),
 ];
+/// What the Rust answers of an entry whose name is not printable: done, or a check after that of the name.
+const OTHER_CHECKS: &[Answer] = &[
+    Answer::Done,
+    Answer::Refusal(13),
+    Answer::Refusal(36),
+    Answer::Refusal(37),
+    Answer::Refusal(38),
+    Answer::Refusal(39),
+    Answer::Refusal(40),
+    Answer::Refusal(41),
+    Answer::Refusal(42),
+];
+const OTHER_NAMES: &[Answer] = &[Answer::Done];
 const NAMES: &[Answer] = &[Answer::Decision("a name"), Answer::Decision("no name"), Answer::Refusal(11)];
 const KINDS: &[Answer] = &[
     Answer::Decision("append"),
@@ -62,6 +79,10 @@ pub const PART: Part = Part {
         Function::new(NAME, NAMES),
         Function::new(NAME_AND_KIND, KINDS),
         Function::new(SPAN, SPANS),
+        Function::part(CHECK_OTHER, OTHER_CHECKS),
+        Function::part(TO_RAW_OTHER, OTHER_CHECKS),
+        Function::part(NAME_OTHER, OTHER_NAMES),
+        Function::part(NAME_AND_KIND_OTHER, OTHER_NAMES),
         Function::part(PLACE, &PLACES),
     ],
     sweep,
@@ -155,7 +176,8 @@ fn compare_check(run: &mut Run, entry: &Lent, limits: &Limits) -> Checked {
     let cell = LentCell::random(&mut run.rng);
     let name = LentCell::random(&mut run.rng);
     let name_len = LentCell::random(&mut run.rng);
-    let expected = reference::check_entry(entry.expected(), limits);
+    let expected = reference::check_entry(entry.expected(), limits, Names::Printable);
+    count_other(run, CHECK_OTHER, &expected, &reference::check_entry(entry.expected(), limits, Names::Any));
     let found = ffi::check_entry(entry.cells(), limits, cell.cell(), name.cell(), name_len.cell());
     Call::new(CHECK, &expected, found).compare(
         run,
@@ -171,7 +193,8 @@ fn compare_check(run: &mut Run, entry: &Lent, limits: &Limits) -> Checked {
 
 fn compare_to_raw(run: &mut Run, entry: &Lent, limits: &Limits) -> Checked {
     let raw = LentCell::random(&mut run.rng);
-    let expected = reference::entry_to_raw(entry.expected(), limits);
+    let expected = reference::entry_to_raw(entry.expected(), limits, Names::Printable);
+    count_other(run, TO_RAW_OTHER, &expected, &reference::entry_to_raw(entry.expected(), limits, Names::Any));
     let found = ffi::entry_to_raw(entry.cells(), limits, raw.cell());
     let filled = filled(&raw, &expected, |raw| *raw);
     let call = Call::new(TO_RAW, &expected, found);
@@ -186,7 +209,8 @@ fn decision<T>(expected: &Expected<T>, name: fn(&T) -> &'static str) -> Answer {
 fn compare_name(run: &mut Run, entry: &Lent) -> Checked {
     let name = LentCell::random(&mut run.rng);
     let name_len = LentCell::random(&mut run.rng);
-    let expected = reference::entry_name(entry.expected());
+    let expected = reference::entry_name(entry.expected(), Names::Printable);
+    count_other(run, NAME_OTHER, &expected, &reference::entry_name(entry.expected(), Names::Any));
     let found = ffi::entry_name(entry.cells(), name.cell(), name_len.cell());
     let answer = decision(&expected, |name| if *name == NO_NAME { "no name" } else { "a name" });
     Call { function: NAME, answer, expected: refusal(&expected), found }.compare(
@@ -204,7 +228,8 @@ fn compare_name_and_kind(run: &mut Run, entry: &Lent) -> Checked {
     let kind = LentCell::random(&mut run.rng);
     let name = LentCell::random(&mut run.rng);
     let name_len = LentCell::random(&mut run.rng);
-    let expected = reference::entry_name_and_kind(entry.expected());
+    let expected = reference::entry_name_and_kind(entry.expected(), Names::Printable);
+    count_other(run, NAME_AND_KIND_OTHER, &expected, &reference::entry_name_and_kind(entry.expected(), Names::Any));
     let found = ffi::entry_name_and_kind(entry.cells(), kind.cell(), name.cell(), name_len.cell());
     let answer = decision(&expected, |found| match found.0 {
         1 => "append",

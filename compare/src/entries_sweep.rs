@@ -5,6 +5,7 @@ use crate::entry_faults::FAULTS;
 use crate::entry_sample::{accepted, any_entry, any_limits, Case, APPEND, EDGES, PAGE, SLOT};
 use crate::ffi_table::Limits;
 use crate::lent::Lent;
+use crate::meta_reference::Names;
 use crate::name_sample::random_stored;
 use crate::page_sample::ENTRY;
 use crate::part::{Checked, Run};
@@ -69,7 +70,7 @@ fn edges(run: &mut Run) -> Checked {
 }
 
 fn compare_accepted(run: &mut Run, case: &Case) -> Checked {
-    let checked = reference::check_entry(&reference::written_entry(&case.entry), &case.limits);
+    let checked = reference::check_entry(&reference::written_entry(&case.entry), &case.limits, Names::Printable);
     assert!(checked.is_ok(), "the reference refuses an entry with {checked:?}");
     compare_case(run, case)
 }
@@ -79,7 +80,8 @@ fn single_faults(run: &mut Run) -> Checked {
         for _ in 0..REPEATS {
             let mut case = accepted(&mut run.rng);
             (fault.make)(&mut case, &mut run.rng);
-            let checked = reference::check_entry(&reference::written_entry(&case.entry), &case.limits);
+            let checked =
+                reference::check_entry(&reference::written_entry(&case.entry), &case.limits, Names::Printable);
             fault.count(run, PLACE, &checked);
             compare_case(run, &case)?;
         }

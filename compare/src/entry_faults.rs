@@ -1,7 +1,7 @@
 //! What can be wrong with a table entry, or with the limits that it is checked with.
 
 use crate::entry_sample::{near_blocks, Case, APPEND, PAGE, SECTOR};
-use crate::name_sample::{insert_bad_run, padded, NAME_MAX};
+use crate::name_sample::{insert_bad_run, insert_unprintable, padded, NAME_MAX};
 use crate::places::Fault;
 use crate::rng::Rng;
 use crate::volume_sample::{LOG2S_ABOVE, LOG2S_BELOW};
@@ -19,6 +19,11 @@ pub const FAULTS: &[Fault<Case>] = &[
     Fault::new("not UTF-8", 35, |case, rng| {
         let mut name = b"name".to_vec();
         insert_bad_run(&mut name, rng);
+        case.entry.name = padded(&name);
+    }),
+    Fault::new("a name with an unprintable byte", 35, |case, rng| {
+        let mut name = b"name".to_vec();
+        insert_unprintable(&mut name, rng);
         case.entry.name = padded(&name);
     }),
     Fault::new("a byte after the name", 35, |case, rng| {

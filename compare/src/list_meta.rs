@@ -39,7 +39,7 @@ use crate::entry_sample::{accepted, any_entry, Case, EDGES};
 use crate::ffi_table::{Entry, Header, Limits};
 use crate::ffi_volume::{Base, Geometry, Volume};
 use crate::list::List;
-use crate::meta_reference::{self as reference, Name};
+use crate::meta_reference::{self as reference, Name, Names};
 use crate::name_sample::{self, padded, random_name, NAME_MAX};
 use crate::outcome::Expected;
 use crate::page_sample::{self, random_entries, written_page, Page, ENTRY, PAGE_HEADER};
@@ -56,7 +56,7 @@ const FILL: u8 = 0xa5;
 const NAMES: [&[u8]; 6] = [
     b"a",
     b"abcdefghijklmnopqrstuvwx",
-    "\u{1}\u{7f}\u{80}\u{7ff}".as_bytes(),
+    " ~\u{80}\u{7ff}".as_bytes(),
     "\u{800}\u{d7ff}\u{e000}\u{ffff}".as_bytes(),
     "\u{10000}\u{10ffff}".as_bytes(),
     "boot \u{e9}\u{20ac}\u{1f4be}".as_bytes(),
@@ -115,13 +115,13 @@ fn names(list: &mut List) {
     }
     let mut behind = padded(b"a");
     behind[NAME_MAX - 1] = b'b';
-    line(list, "pad", &[&behind], reference::region_name_padded(behind), packed_name);
+    line(list, "pad", &[&behind], reference::region_name_padded(behind, Names::Printable), packed_name);
 }
 
 fn both_names(list: &mut List, name: &[u8]) {
-    line(list, "nam", &[name], reference::region_name(name), packed_name);
+    line(list, "nam", &[name], reference::region_name(name, Names::Printable), packed_name);
     let stored = padded(name);
-    line(list, "pad", &[&stored], reference::region_name_padded(stored), packed_name);
+    line(list, "pad", &[&stored], reference::region_name_padded(stored, Names::Printable), packed_name);
 }
 
 // ---- volume records
@@ -270,21 +270,27 @@ fn entries(list: &mut List) {
         named(list, &bytes);
         reserved(list, &case.limits, &bytes);
         let limits = packed_limits(&case.limits);
-        line(list, "raw", &[&limits, &bytes], tables::entry_to_raw(&bytes, &case.limits), Value::packed);
+        line(
+            list,
+            "raw",
+            &[&limits, &bytes],
+            tables::entry_to_raw(&bytes, &case.limits, Names::Printable),
+            Value::packed,
+        );
     }
 }
 
 fn checked(list: &mut List, case: &Case) {
     let bytes = tables::written_entry(&case.entry);
-    let answer = tables::check_entry(&bytes, &case.limits);
+    let answer = tables::check_entry(&bytes, &case.limits, Names::Printable);
     line(list, "ech", &[&packed_limits(&case.limits), &bytes], answer, |(numbers, name)| {
         [numbers.packed(), packed_name(name)].concat()
     });
 }
 
 fn named(list: &mut List, bytes: &[u8]) {
-    line(list, "ena", &[bytes], tables::entry_name(bytes), packed_name);
-    line(list, "enk", &[bytes], tables::entry_name_and_kind(bytes), |(kind, name)| {
+    line(list, "ena", &[bytes], tables::entry_name(bytes, Names::Printable), packed_name);
+    line(list, "enk", &[bytes], tables::entry_name_and_kind(bytes, Names::Printable), |(kind, name)| {
         [vec![kind], packed_name(name)].concat()
     });
 }

@@ -1,7 +1,7 @@
 //! What the Rust reference answers to one call of the functions for region names and the volume record.
 //!
-//! The library differs from it: names are bytes, of which the reference takes only text; the table's end and the file's
-//! length refuse sizes out of range; and a buffer that is too short for a record keeps its bytes.
+//! The library differs from it: names are bytes, of which the reference takes only text; a name's bytes are printable; the
+//! table's end and the file's length refuse sizes out of range; and a buffer that is too short for a record keeps its bytes.
 
 use crate::ffi_volume::{Base, Geometry, Volume};
 use crate::meta::{MetaError, RegionName, VolumeMeta};
@@ -57,13 +57,51 @@ pub type Name = ([u8; 24], u8);
 
 pub const NO_NAME: Name = ([0; 24], 0);
 
-pub fn region_name(name: &[u8]) -> Expected<Name> {
-    let text = std::str::from_utf8(name).map_err(|_| NAME)?;
+/// Which names are taken.
+#[derive(Clone, Copy)]
+pub enum Names {
+    /// The library's: each byte is 20 (hexadecimal) or above, and not 7F.
+    Printable,
+    /// The reference's, with any byte but a zero.
+    Any,
+}
+
+impl Names {
+    fn takes(self, name: &[u8]) -> bool {
+        match self {
+            Self::Printable => name.iter().all(|byte| !matches!(byte, 0x00..=0x1f | 0x7f)),
+            Self::Any => true,
+        }
+    }
+
+    /// What the reference is asked about: no bytes in the place of a name that is not taken, which it refuses too. So the
+    /// refusal keeps its place among the others.
+    fn asked(self, name: &[u8]) -> &[u8] {
+        if self.takes(name) {
+            name
+        } else {
+            &[]
+        }
+    }
+
+    /// The same of a name as it is stored.
+    pub fn asked_padded(self, raw: [u8; 24]) -> [u8; 24] {
+        let len = raw.iter().position(|byte| *byte == 0).unwrap_or(raw.len());
+        if self.takes(&raw[..len]) {
+            raw
+        } else {
+            [0; 24]
+        }
+    }
+}
+
+pub fn region_name(name: &[u8], names: Names) -> Expected<Name> {
+    let text = std::str::from_utf8(names.asked(name)).map_err(|_| NAME)?;
     RegionName::new(text).map(|name| stored_name(&name)).map_err(refusal_number)
 }
 
-pub fn region_name_padded(raw: [u8; 24]) -> Expected<Name> {
-    RegionName::from_padded(raw).map(|name| stored_name(&name)).map_err(refusal_number)
+pub fn region_name_padded(raw: [u8; 24], names: Names) -> Expected<Name> {
+    RegionName::from_padded(names.asked_padded(raw)).map(|name| stored_name(&name)).map_err(refusal_number)
 }
 
 pub fn stored_name(name: &RegionName) -> Name {

@@ -6,9 +6,9 @@ use crate::rng::Rng;
 
 pub const NAME_MAX: usize = 24;
 
-/// Characters at the edges of each length in bytes.
+/// Characters at the edges of each length in bytes, of one byte the printable ones.
 pub const EDGE_CHARACTERS: [char; 10] =
-    ['\u{1}', '\u{7f}', '\u{80}', '\u{7ff}', '\u{800}', '\u{d7ff}', '\u{e000}', '\u{ffff}', '\u{10000}', '\u{10ffff}'];
+    [' ', '~', '\u{80}', '\u{7ff}', '\u{800}', '\u{d7ff}', '\u{e000}', '\u{ffff}', '\u{10000}', '\u{10ffff}'];
 
 /// Characters of two, three and four bytes cut short, without a byte that belongs after them.
 const CUT_SHORT: [&[u8]; 11] = [
@@ -45,6 +45,9 @@ const TOO_LARGE: [&[u8]; 6] = [
     &[0xff],
 ];
 
+/// Characters of one byte that are not printable.
+const UNPRINTABLE: [&[u8]; 6] = [&[0x01], &[0x09], &[0x0a], &[0x1b], &[0x1f], &[0x7f]];
+
 /// Runs of bytes that are no characters.
 pub const BAD_RUNS: [&[&[u8]]; 5] = [&CUT_SHORT, &WITHOUT_LEAD, &SURROGATES, &OVERLONG, &TOO_LARGE];
 
@@ -55,6 +58,9 @@ pub const FAULTS: &[Fault<Vec<u8>>] = &[
     Fault::new("a zero first", NAME, |name, _| insert_at(name, 0, &[0])),
     Fault::new("a zero last", NAME, |name, _| insert_at(name, NAME_MAX, &[0])),
     Fault::new("a zero", NAME, |name, rng| insert_one(name, rng, &[&[0]])),
+    Fault::new("an unprintable byte first", NAME, |name, rng| insert_at(name, 0, rng.pick(&UNPRINTABLE))),
+    Fault::new("an unprintable byte last", NAME, |name, rng| insert_at(name, NAME_MAX, rng.pick(&UNPRINTABLE))),
+    Fault::new("an unprintable byte", NAME, |name, rng| insert_unprintable(name, rng)),
     Fault::new("cut short", NAME, |name, rng| insert_one(name, rng, &CUT_SHORT)),
     Fault::new("without lead", NAME, |name, rng| insert_one(name, rng, &WITHOUT_LEAD)),
     Fault::new("surrogate", NAME, |name, rng| insert_one(name, rng, &SURROGATES)),
@@ -66,6 +72,11 @@ pub const FAULTS: &[Fault<Vec<u8>>] = &[
 pub fn insert_bad_run(name: &mut Vec<u8>, rng: &mut Rng) {
     let runs = rng.pick(&BAD_RUNS);
     insert_one(name, rng, runs);
+}
+
+/// Puts a byte that is not printable into a name.
+pub fn insert_unprintable(name: &mut Vec<u8>, rng: &mut Rng) {
+    insert_one(name, rng, &UNPRINTABLE);
 }
 
 fn insert_one(name: &mut Vec<u8>, rng: &mut Rng, choices: &[&[u8]]) {
@@ -100,7 +111,7 @@ fn random_character(rng: &mut Rng) -> char {
     if rng.one_in(4) {
         return rng.pick(&EDGE_CHARACTERS);
     }
-    let (low, high) = rng.pick(&[(0x01, 0x7f), (0x61, 0x7a), (0x80, 0x7ff), (0x800, 0xffff), (0x1_0000, 0x10_ffff)]);
+    let (low, high) = rng.pick(&[(0x20, 0x7e), (0x61, 0x7a), (0x80, 0x7ff), (0x800, 0xffff), (0x1_0000, 0x10_ffff)]);
     let number = rng.between(low, high) as u32;
     char::from_u32(number).unwrap_or('\u{d7ff}')
 }

@@ -3,24 +3,34 @@
 use crate::counts::{Answer, Function};
 use crate::ffi_volume as ffi;
 use crate::lent::{Lent, LentCell};
-use crate::meta_reference as reference;
+use crate::meta_reference::{self as reference, Names};
 use crate::name_sample::{
     padded, random_bytes, random_name, random_stored, BAD_RUNS, EDGE_CHARACTERS, FAULTS, NAME_MAX,
 };
-use crate::outcome::{filled, kept, Call};
+use crate::outcome::{count_other, filled, kept, Call};
 use crate::part::{Checked, Part, Run};
 use crate::places::places;
 
 const NAME: &str = "sio_region_name";
 const PADDED: &str = "sio_region_name_padded";
+const NAME_OTHER: &str = "sio_region_name: the Rust's other answer";
+const PADDED_OTHER: &str = "sio_region_name_padded: the Rust's other answer";
 const PLACE: &str = "sio_region_name: refused for";
 
 const ANSWERS: &[Answer] = &[Answer::Done, Answer::Refusal(reference::NAME)];
+/// What the Rust answers of a name that is not printable.
+const OTHERS: &[Answer] = &[Answer::Done];
 
 const PLACES: [Answer; FAULTS.len()] = places(FAULTS);
 
 pub const PART: Part = Part {
-    functions: &[Function::new(NAME, ANSWERS), Function::new(PADDED, ANSWERS), Function::part(PLACE, &PLACES)],
+    functions: &[
+        Function::new(NAME, ANSWERS),
+        Function::new(PADDED, ANSWERS),
+        Function::part(NAME_OTHER, OTHERS),
+        Function::part(PADDED_OTHER, OTHERS),
+        Function::part(PLACE, &PLACES),
+    ],
     sweep,
     round,
 };
@@ -35,6 +45,7 @@ fn sweep(run: &mut Run) -> Checked {
     one_and_two_bytes(run)?;
     three_and_four_bytes(run)?;
     every_position(run)?;
+    single_bytes(run)?;
     zeros(run)?;
     single_faults(run)
 }
@@ -102,15 +113,27 @@ fn every_position(run: &mut Run) -> Checked {
     Ok(())
 }
 
-/// A zero at every place of a name of every length; after the first zero of a stored name one other byte.
+/// Each byte below 80 at every place of a name of every length.
+fn single_bytes(run: &mut Run) -> Checked {
+    for len in 1..=NAME_MAX + 1 {
+        for at in 0..len {
+            for byte in 0..0x80 {
+                let mut name = vec![b'a'; len];
+                name[at] = byte;
+                compare_both(run, &name)?;
+            }
+        }
+    }
+    Ok(())
+}
+
+/// After the first zero of a stored name one other byte.
 fn zeros(run: &mut Run) -> Checked {
     for len in 1..=NAME_MAX + 1 {
         for at in 0..len {
-            let mut name = vec![b'a'; len];
-            name[at] = 0;
-            compare_both(run, &name)?;
+            let name = vec![b'a'; at];
             for byte in [1, 0x7f, 0x80, 0xff] {
-                let mut stored = padded(&name[..at]);
+                let mut stored = padded(&name);
                 stored[(len - 1).min(NAME_MAX - 1)] = byte;
                 compare_padded(run, stored)?;
             }
@@ -125,7 +148,7 @@ fn single_faults(run: &mut Run) -> Checked {
             let mut name = random_name(&mut run.rng);
             compare_both(run, &name)?;
             (fault.make)(&mut name, &mut run.rng);
-            fault.count(run, PLACE, &reference::region_name(&name));
+            fault.count(run, PLACE, &reference::region_name(&name, Names::Printable));
             compare_both(run, &name)?;
         }
     }
@@ -136,7 +159,8 @@ fn compare_name(run: &mut Run, name: &[u8]) -> Checked {
     let lent = Lent::holding(&mut run.rng, name);
     let stored = LentCell::random(&mut run.rng);
     let stored_len = LentCell::random(&mut run.rng);
-    let expected = reference::region_name(name);
+    let expected = reference::region_name(name, Names::Printable);
+    count_other(run, NAME_OTHER, &expected, &reference::region_name(name, Names::Any));
     let found = ffi::region_name(lent.cells(), stored.cell(), stored_len.cell());
     Call::new(NAME, &expected, found).compare(
         run,
@@ -153,7 +177,8 @@ fn compare_padded(run: &mut Run, raw: [u8; NAME_MAX]) -> Checked {
     let lent = LentCell::holding(&mut run.rng, raw);
     let stored = LentCell::random(&mut run.rng);
     let stored_len = LentCell::random(&mut run.rng);
-    let expected = reference::region_name_padded(raw);
+    let expected = reference::region_name_padded(raw, Names::Printable);
+    count_other(run, PADDED_OTHER, &expected, &reference::region_name_padded(raw, Names::Any));
     let found = ffi::region_name_padded(lent.cell(), stored.cell(), stored_len.cell());
     Call::new(PADDED, &expected, found).compare(
         run,

@@ -80,6 +80,13 @@ pub fn answer<T>(expected: &Expected<T>) -> Answer {
     }
 }
 
+/// Counts a case that the reference by itself answers otherwise than is expected, by its own answer.
+pub fn count_other<T: PartialEq>(run: &mut Run, part: &'static str, expected: &Expected<T>, rust: &Expected<T>) {
+    if expected != rust {
+        run.counts.add_part(part, answer(rust));
+    }
+}
+
 /// A call that was made: its answer, and the number that it must give.
 pub struct Call {
     pub function: &'static str,

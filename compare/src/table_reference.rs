@@ -8,7 +8,7 @@ use crate::meta::RegionKind;
 use crate::meta2::{
     self, Entry2, EntryLimits, PageHeader, RawEntry, ENTRY2_LEN as ENTRY, PAGE_HEADER_LEN as PAGE_HEADER,
 };
-use crate::meta_reference::{refusal_number, stored_name, written, Name, NO_NAME};
+use crate::meta_reference::{refusal_number, stored_name, written, Name, Names, NO_NAME};
 use crate::outcome::Expected;
 use crate::stored::get;
 
@@ -133,12 +133,19 @@ pub fn limits_of(limits: &Limits) -> EntryLimits {
     }
 }
 
-fn checked(bytes: &[u8], limits: &Limits) -> Expected<Entry2> {
-    first_entry(bytes)?.check(&limits_of(limits)).map_err(refusal_number)
+/// The same with the name that the reference is asked about.
+fn asked_entry(bytes: &[u8], names: Names) -> Expected<RawEntry> {
+    let mut raw = first_entry(bytes)?;
+    raw.name = names.asked_padded(raw.name);
+    Ok(raw)
 }
 
-pub fn check_entry(bytes: &[u8], limits: &Limits) -> Expected<([u64; 13], Name)> {
-    let entry = checked(bytes, limits)?;
+fn checked(bytes: &[u8], limits: &Limits, names: Names) -> Expected<Entry2> {
+    asked_entry(bytes, names)?.check(&limits_of(limits)).map_err(refusal_number)
+}
+
+pub fn check_entry(bytes: &[u8], limits: &Limits, names: Names) -> Expected<([u64; 13], Name)> {
+    let entry = checked(bytes, limits, names)?;
     let numbers = [
         entry.seq.into(),
         kind_number(entry.kind).into(),
@@ -165,17 +172,17 @@ fn kind_number(kind: RegionKind) -> u8 {
     }
 }
 
-pub fn entry_to_raw(bytes: &[u8], limits: &Limits) -> Expected<[u8; ENTRY]> {
-    Ok(entry_bytes(&checked(bytes, limits)?.to_raw()))
+pub fn entry_to_raw(bytes: &[u8], limits: &Limits, names: Names) -> Expected<[u8; ENTRY]> {
+    Ok(entry_bytes(&checked(bytes, limits, names)?.to_raw()))
 }
 
-pub fn entry_name(bytes: &[u8]) -> Expected<Name> {
-    let name = first_entry(bytes)?.name();
+pub fn entry_name(bytes: &[u8], names: Names) -> Expected<Name> {
+    let name = asked_entry(bytes, names)?.name();
     Ok(name.map_or(NO_NAME, |name| stored_name(&name)))
 }
 
-pub fn entry_name_and_kind(bytes: &[u8]) -> Expected<(u8, Name)> {
-    let found = first_entry(bytes)?.name_and_kind();
+pub fn entry_name_and_kind(bytes: &[u8], names: Names) -> Expected<(u8, Name)> {
+    let found = asked_entry(bytes, names)?.name_and_kind();
     Ok(found.map_or((0, NO_NAME), |(name, kind)| (kind_number(kind), stored_name(&name))))
 }
 

@@ -1,6 +1,7 @@
 -- The bytes of a row of the grammar are the encoding of a scalar value, and a scalar value's encoding fits one of the rows: the value is
 -- computed from the bytes, and the row goes by the range that the value is in.
 use Rattle.std.proofs.Common.{◌≡◌, refl, Bool, true, false, ltb, ltb-true, ltb-false, sym, ◌∙◌, List, [], ◌∷◌, ℕ, ◌+◌, ◌-◌, ◌*◌, ◌/◌, ◌%◌, ◌≤◌, ◌<◌, arith, lt-ltb, le-ltb, length, get_or}
+use Rattle.std.specs.List.{list_all}
 use Rattle.meta.specs.Utf8.{Range, utf8_tail, utf8_char}
 use Rattle.meta.specs.Scalar.{encode, Scalar}
 use Rattle.meta.proofs.Rows.{Fits, Bounds, bounds_fit, All, ◌and◌}
@@ -14,7 +15,7 @@ range k i = get_or (row k) i utf8_tail
 
 -- ---- the encoding by its length
 
-by_below : {P : Type 0} (a k : ℕ) → (a < k → P) → (k ≤ a → P) → P
+pub by_below : {P : Type 0} (a k : ℕ) → (a < k → P) → (k ≤ a → P) → P
 by_below {P} a k below above = go (ltb a k) refl
   where
     go : (test : Bool) → ltb a k ≡ test → P
@@ -34,7 +35,7 @@ module _ (v : ℕ) where
   abbrev four_bytes : List ℕ
   four_bytes = (0xF0 + v / 262144) ∷ (0x80 + v / 4096 % 64) ∷ (0x80 + v / 64 % 64) ∷ (0x80 + v % 64) ∷ []
 
-  encode_one : v < 0x80 → encode v ≡ one_byte
+  pub encode_one : v < 0x80 → encode v ≡ one_byte
   unfolding encode
   encode_one below = rw (lt-ltb v 0x80 below)
 
@@ -56,6 +57,15 @@ module _ (v : ℕ) where
       (λ from-80. by_below v 0x800 (λ end. rw (encode_two from-80 end) (omega arith))
       (λ from-800. by_below v 0x1_0000 (λ end. rw (encode_three from-800 end) (omega arith))
       (λ from-10000. rw (encode_four from-10000) (omega arith))))
+
+  -- All bytes of a longer encoding are 80 or above.
+  pub encode_high : (test : ℕ → Bool) → ((b : ℕ) → 0x80 ≤ b → test b ≡ true) → 0x80 ≤ v → list_all test (encode v) ≡ true
+  encode_high test high from-80 =
+      let last : test (0x80 + v % 64) ≡ true = high (0x80 + v % 64) (omega arith) in
+      let third : test (0x80 + v / 64 % 64) ≡ true = high (0x80 + v / 64 % 64) (omega arith) in
+      by_below v 0x800 (λ end. rw (encode_two from-80 end, high (0xC0 + v / 64) (omega arith), last) refl)
+      (λ from-800. by_below v 0x1_0000 (λ end. rw (encode_three from-800 end, high (0xE0 + v / 4096) (omega arith), third, last) refl)
+      (λ from-10000. rw (encode_four from-10000, high (0xF0 + v / 262144) (omega arith), high (0x80 + v / 4096 % 64) (omega arith), third, last) refl))
 
 -- ---- the value of a row's bytes
 

@@ -1,15 +1,56 @@
 -- Laws of region names: what an accepted name is, and that storing a name and reading it back are inverse to each other.
-use Rattle.std.proofs.Common.{◌≡◌, refl, sym, ap, ◌∙◌, Bool, true, false, cond, not, ◌&&◌, List, [], ◌∷◌, ◌++◌, ℕ, zero, suc, ◌+◌, ◌-◌, ◌≤◌, ◌<◌, ◌==◌, arith, eq-eqb, ne_eqb, le-ltb, le-leb, eqb-true, length, take, drop, replicate, Option, Some, None, Ok, length-drop, take-append-drop, length-take-le, take_at, drop_at}
-use Rattle.std.specs.Prelude.{if◌then◌else◌, ◌||◌}
+use Rattle.std.proofs.Common.{◌≡◌, refl, sym, ap, ap₂, ◌∙◌, Bool, true, false, cond, not, ◌&&◌, List, [], ◌∷◌, ◌++◌, ℕ, zero, suc, ◌+◌, ◌-◌, ◌≤◌, ◌<◌, ◌==◌, arith, eq-eqb, ne_eqb, le-ltb, le-leb, eqb-true, length, take, drop, replicate, Option, Some, None, Ok, length-drop, take-append-drop, length-take-le, take_at, drop_at}
+use Rattle.std.specs.Prelude.{if◌then◌else◌}
 use Rattle.std.specs.Option.{MatchOption, ok_or, unwrap_or}
-use Rattle.std.specs.List.{AllWithin, HoldsAt, list_all, list_any}
-use Rattle.std.proofs.lemmas.List.Sums.{position_or_len_is}
+use Rattle.std.specs.List.{All, AllWithin, HoldsAt, fold, list_all}
+use Rattle.std.proofs.lemmas.List.Sums.{position_or_len_is, AllPass-from_list_all, list_all-from_AllPass}
+use Rattle.std.proofs.lemmas.List.Folds.{list_all-append}
+use Rattle.std.proofs.Math.Bool.{and_assoc, and-eq-true_iff, and-true}
 use Rattle.meta.specs.Utf8.{utf8}
-use Rattle.meta.specs.Name.{is_name, zero_at, stored_name, name_of, name_in, named, padded, name_text, IsName, NamesAre, NamesBack}
+use Rattle.meta.specs.Scalar.{encode, encode_all}
+use Rattle.meta.specs.Name.{is_printable, is_name, zero_at, stored_name, name_of, name_in, named, padded, name_text, IsPrintable, PrintableAre, IsName, NamesAre, NamesBack}
 use Rattle.meta.specs.declared.meta.Field.{Field}
 use Rattle.meta.specs.declared.meta.MetaError.{MetaError}
 use Rattle.meta.specs.declared.meta.RegionName.{RegionName}
+use Rattle.meta.proofs.Encoding.{by_below, encode_one, encode_high}
 use Rattle.meta.proofs.Utf8Laws.{utf8_encoded, encoded_utf8}
+
+-- ---- printable bytes
+
+tested_is : (b : ℕ) → is_printable b ≡ true → IsPrintable b
+tested_is b test = grind arith
+
+is_tested : (b : ℕ) → IsPrintable b → is_printable b ≡ true
+is_tested b is = rw (le-leb 0x20 b is.from_20, ne_eqb b 0x7F is.not_7f) refl
+
+each_printable : (s : List ℕ) → list_all is_printable s ≡ true → All IsPrintable s
+each_printable s test k d within = tested_is _ (AllPass-from_list_all is_printable s test k d within)
+
+printable_each : (s : List ℕ) → All IsPrintable s → list_all is_printable s ≡ true
+printable_each s each = list_all-from_AllPass is_printable s (λ k d within. is_tested _ (each k d within))
+
+fold_and : (test : ℕ → Bool) (all : Bool) (s : List ℕ) → fold (λ (a : Bool) (b : ℕ). a && test b) all s ≡ (all && list_all test s)
+fold_and test all [] = sym (and-true all)
+fold_and test all (b ∷ s) = fold_and test (all && test b) s ∙ and_assoc all (test b) (list_all test s)
+
+pub fold_printable : (s : List ℕ) → fold (λ (a : Bool) (b : ℕ). a && is_printable b) true s ≡ list_all is_printable s
+fold_printable s = fold_and is_printable true s
+
+pub printable_are : PrintableAre
+printable_are s = (each_printable s, printable_each s)
+
+beyond : (b : ℕ) → 0x80 ≤ b → IsPrintable b
+beyond b high = record { from_20 = omega arith; not_7f = λ is. omega (arith, is) }
+
+-- A value's encoding is printable if the value is: all the bytes of a longer one are 80 or above.
+encode_printable : (v : ℕ) → list_all is_printable (encode v) ≡ is_printable v
+encode_printable v =
+    by_below v 0x80 (λ end. rw (encode_one v end) (and-true (is_printable v)))
+    (λ from-80. encode_high v is_printable (λ b high. is_tested b (beyond b high)) from-80 ∙ sym (is_tested v (beyond v from-80)))
+
+all_printable : (vs : List ℕ) → list_all is_printable (encode_all vs) ≡ list_all is_printable vs
+all_printable [] = refl
+all_printable (v ∷ vs) = list_all-append is_printable (encode v) (encode_all vs) ∙ ap₂ (λ (l r : Bool). l && r) (encode_printable v) (all_printable vs)
 
 -- ---- an accepted name
 
@@ -17,19 +58,29 @@ pub name_length : (s : List ℕ) → is_name s ≡ true → length s ≤ 24
 unfolding is_name
 name_length s is = grind arith
 
+name_printable : (s : List ℕ) → is_name s ≡ true → list_all is_printable s ≡ true
+unfolding is_name
+name_printable s is = grind arith
+
 name_is : (s : List ℕ) → is_name s ≡ true → IsName s
 unfolding is_name
 name_is s is =
     let whole : utf8 s ≡ true = grind arith in
-    record { some = grind arith; short = grind arith; no_zero = grind arith; encoded = utf8_encoded s whole }
+    let encoded = utf8_encoded s whole in
+    let values : list_all is_printable encoded.values ≡ true =
+    sym (all_printable encoded.values) ∙ ap (list_all is_printable) (sym encoded.is) ∙ name_printable s is in
+    record { some = grind arith; short = grind arith; encoded = encoded; printable = each_printable encoded.values values }
 
 is_named : (s : List ℕ) → IsName s → is_name s ≡ true
 unfolding is_name
 is_named s is =
     let empty : (length s == 0) ≡ false = ne_eqb (length s) 0 (λ none. omega (arith, is.some)) in
-    rw (empty, le-leb (length s) 24 is.short, is.no_zero) (encoded_utf8 s is.encoded)
+    let pass : list_all is_printable s ≡ true =
+    ap (list_all is_printable) is.encoded.is ∙ all_printable is.encoded.values ∙ printable_each is.encoded.values is.printable in
+    rw (empty, le-leb (length s) 24 is.short, pass) (encoded_utf8 s is.encoded)
 
 pub names_are : NamesAre
+unfolding NamesAre
 names_are s = (name_is s, is_named s)
 
 -- ---- where the first zero stands
@@ -51,15 +102,14 @@ zero_within (b ∷ s) = go (b == 0) (zero_within s)
     go true rest = omega arith
     go false rest = omega arith
 
-zero_behind : (s : List ℕ) (n : ℕ) → list_any (λ b. b == 0) s ≡ false → zero_at (s ++ replicate n 0) ≡ length s
-zero_behind [] zero none = refl
-zero_behind [] (suc n) none = refl
-zero_behind (b ∷ s) n none = go (b == 0) none (zero_behind s n)
-  where
-    go : (first : Bool) → (first || list_any (λ b. b == 0) s) ≡ false → (list_any (λ b. b == 0) s ≡ false → zero_at (s ++ replicate n 0) ≡ length s)
-        → cond (not first) (1 + zero_at (s ++ replicate n 0)) 0 ≡ suc (length s)
-    go true none rest = let never : ◌≡◌ {A = ℕ} 0 1 = cc in absurd (omega arith)
-    go false none rest = let end = rest none in omega arith
+zero_behind : (s : List ℕ) (n : ℕ) → list_all is_printable s ≡ true → zero_at (s ++ replicate n 0) ≡ length s
+zero_behind [] zero pass = refl
+zero_behind [] (suc n) pass = refl
+zero_behind (b ∷ s) n pass =
+    let parts = (and-eq-true_iff (is_printable b) (list_all is_printable s)).0 pass in
+    let first = tested_is b parts.0 in
+    let none : (b == 0) ≡ false = ne_eqb b 0 (λ zero. omega (arith, first.from_20)) in
+    rw (none, zero_behind s n parts.1) (omega arith)
 
 zeros_zero : (n : ℕ) → list_all (λ b. b == 0) (replicate n 0) ≡ true
 zeros_zero zero = refl
@@ -124,7 +174,7 @@ module _ (s : List ℕ) (ok : is_name s ≡ true) where
   zeros = replicate (24 - length s) 0
 
   end : zero_at (s ++ zeros) ≡ length s
-  end = zero_behind s (24 - length s) (name_is s ok).no_zero
+  end = zero_behind s (24 - length s) (name_printable s ok)
 
   read_stored : padded (s ++ zeros) ≡ Ok (stored_name s)
   unfolding name_in name_of

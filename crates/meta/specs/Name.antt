@@ -1,6 +1,6 @@
--- A region's name: 1 to 24 bytes of UTF-8, no NUL; stored in 24 bytes, zeros after it (docs/FORMAT.md, "Names").
-use Rattle.std.specs.Prelude.{◌≡◌, ◌≤◌, Bool, true, false, not, ◌&&◌, ◌==◌, nat_le, nat_lt, if◌then◌else◌, List, [], ◌++◌, ℕ, ◌-◌, length, take, drop, replicate, Option, Some, None, Result, Ok}
-use Rattle.std.specs.List.{list_all, list_any, position_or_len}
+-- A region's name: 1 to 24 printable bytes of UTF-8; stored in 24 bytes, zeros after it (docs/FORMAT.md, "Names").
+use Rattle.std.specs.Prelude.{◌≡◌, ◌≢◌, ◌≤◌, Bool, true, not, ◌&&◌, ◌==◌, nat_le, nat_lt, if◌then◌else◌, List, [], ◌++◌, ℕ, ◌-◌, length, take, drop, replicate, Option, Some, None, Result, Ok}
+use Rattle.std.specs.List.{All, list_all, position_or_len}
 use Rattle.std.specs.Option.{ok_or}
 use Rattle.meta.specs.declared.meta.Field.{Field}
 use Rattle.meta.specs.declared.meta.MetaError.{MetaError}
@@ -12,9 +12,13 @@ use Rattle.meta.specs.Scalar.{Encoded}
 abbrev pub zero_at : List ℕ → ℕ
 zero_at s = position_or_len (λ b. b == 0) s
 
--- Which bytes are a name.
+-- 20 (hexadecimal) or above, and not 7F.
+abbrev pub is_printable : ℕ → Bool
+is_printable b = nat_le 0x20 b && not (b == 0x7F)
+
+-- Which bytes are a name. A zero byte is not printable.
 unfoldable pub is_name : List ℕ → Bool
-is_name s = not (length s == 0) && nat_le (length s) 24 && not (list_any (λ b. b == 0) s) && utf8 s
+is_name s = not (length s == 0) && nat_le (length s) 24 && list_all is_printable s && utf8 s
 
 -- A name as it is stored.
 abbrev pub stored_name : List ℕ → RegionName
@@ -41,15 +45,25 @@ text s = if utf8 s then s else []
 abbrev pub name_text : RegionName → List ℕ
 name_text name = if nat_lt 24 name.len then [] else text (take name.len name.bytes)
 
--- The encodings of scalar values in 1 to 24 bytes, none of them zero.
+-- A byte or a scalar value that is printable.
+pub record IsPrintable (b : ℕ) : Type 0 where
+  pub from_20 : 0x20 ≤ b
+  pub not_7f : b ≢ 0x7F
+
+-- The test passes if and only if each byte is printable.
+abbrev pub PrintableAre : Type 0
+PrintableAre = (s : List ℕ) → (list_all is_printable s ≡ true → All IsPrintable s) × (All IsPrintable s → list_all is_printable s ≡ true)
+
+-- The encodings of printable scalar values in 1 to 24 bytes. The control characters from 80 to 9F are among them, since their bytes are 80
+-- or above.
 pub record IsName (s : List ℕ) : Type 0 where
   pub some : 1 ≤ length s
   pub short : length s ≤ 24
-  pub no_zero : list_any (λ b. b == 0) s ≡ false
   pub encoded : Encoded s
+  pub printable : All IsPrintable encoded.values
 
 -- These are names, and nothing else is.
-abbrev pub NamesAre : Type 0
+unfoldable pub NamesAre : Type 0
 NamesAre = (s : List ℕ) → (is_name s ≡ true → IsName s) × (IsName s → is_name s ≡ true)
 
 -- A name is read back from the bytes that it is stored as, and 24 bytes that are read as a name are the bytes that it is stored as. It

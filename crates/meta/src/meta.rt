@@ -19,7 +19,7 @@ ghost use Rattle.meta.specs.Error.{number, field_number, Numbered};
 ghost use Rattle.meta.specs.Kind.{kind_number, kind_at, state_number, state_at};
 ghost use Rattle.meta.specs.Utf8.{utf8};
 ghost use Rattle.meta.specs.Scalar.{GrammarEncodes};
-ghost use Rattle.meta.specs.Name.{is_name, zero_at, named, padded, text, name_text, NamesAre, NamesBack};
+ghost use Rattle.meta.specs.Name.{is_printable, is_name, zero_at, named, padded, text, name_text, PrintableAre, NamesAre, NamesBack};
 ghost use Rattle.meta.specs.Base.{base_at, check_base, decode_base, base_row, encode_base, BasesBack};
 
 use codec::codec::{Reader, Writer, copy};
@@ -114,7 +114,8 @@ impl fmt::Display for Field {
             Field::Log2Block => "the container's block size is not 4 KiB to 64 KiB",
             Field::Kind => "the region's kind is not defined",
             Field::State => "the region is not ready",
-            Field::Name => "the region's name is not 1 to 24 bytes of UTF-8, zeros behind them",
+            Field::Name =>
+                "the region's name is not 1 to 24 printable bytes of UTF-8, zeros behind them",
             Field::DataSize => "the region's data exceeds its capacity",
             Field::Span => "the region's span is empty or ends behind the file",
             Field::Capacity => "the region's capacity is zero or exceeds its span",
@@ -212,7 +213,7 @@ impl RegionState {
 /// Most bytes of a region's name.
 pub const NAME_MAX: usize = 24;
 
-/// A region name: 1 to 24 bytes of UTF-8, no NUL bytes; zeros after them.
+/// A region name: 1 to 24 printable bytes of UTF-8; zeros after them.
 // 24 bytes and a length: there is no heap, and the bytes are stored so.
 #[derive(Clone, Copy)]
 pub struct RegionName {
@@ -237,7 +238,7 @@ impl RegionName {
         })
     }
 
-    /// The name as text; none where the fields hold no name.
+    /// The name as text; none where the fields hold no UTF-8 of at most 24 bytes.
     pub fn as_str(&self) -> &str
         ensures { result.now ≡ name_text self.now }
     {
@@ -283,7 +284,22 @@ fn is_utf8(bytes: &[u8]) -> bool
 fn is_name(name: &[u8]) -> bool
     ensures { result ≡ is_name name.now }
 {
-    !name.is_empty() && name.len() <= NAME_MAX && !name.contains(&0) && is_utf8(name)
+    !name.is_empty() && name.len() <= NAME_MAX && all_printable(name) && is_utf8(name)
+}
+
+/// Whether a byte is printable.
+fn is_printable(b: u8) -> bool
+    ensures { result ≡ is_printable b }
+{
+    b >= 0x20 && b != 0x7F
+}
+
+// Each byte is tested, also after one that is not printable: a scan without an early end compiles to comparisons of many bytes at once.
+/// Whether every byte is printable.
+fn all_printable(bytes: &[u8]) -> bool
+    ensures { result ≡ list_all is_printable bytes.now }
+{
+    bytes.iter().fold(true, |all, &b| all & is_printable(b))
 }
 
 /// Where the first zero stands, or the length.
@@ -462,7 +478,13 @@ pub fn grammar_law()
     ensures { GrammarEncodes }
 {}
 
-/// Does nothing: its contract is that names are the encodings of scalar values in 1 to 24 bytes, none of them zero.
+/// Does nothing: its contract is which bytes are printable.
+#[tactic(auto, using(crate::proofs::NameLaws::printable_are))]
+pub fn printable_law()
+    ensures { PrintableAre }
+{}
+
+/// Does nothing: its contract is that names are the encodings of printable scalar values in 1 to 24 bytes.
 #[tactic(auto, using(crate::proofs::NameLaws::names_are))]
 pub fn name_law()
     ensures { NamesAre }

@@ -29,7 +29,7 @@
 //! | 5 | 1 | state | 1 |
 //! | 6 | 1 | flags | at most 3 |
 //! | 7 | 1 | compat_flags | |
-//! | 8 | 24 | name | 1 to 24 bytes of UTF-8, then zeros |
+//! | 8 | 24 | name | 1 to 24 printable bytes of UTF-8, then zeros |
 //! | 32 | 4 | tag | |
 //! | 36 | 2 | extent_count | 0 for a slot region, else at least 1 |
 //! | 38 | 2 | reserved | zero (checked with the page) |

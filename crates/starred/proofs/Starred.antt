@@ -6,12 +6,14 @@ use Rattle.slot.specs.Write.{encode_check}
 use Rattle.judge.specs.Judge.{first_verdicts, first_tally, row_rules, verdicts, judgement}
 use Rattle.meta.specs.Block.{block_size, entries_per_page}
 use Rattle.meta.specs.Utf8.{utf8, utf8_octets}
-use Rattle.meta.specs.Name.{is_name, name_of}
-use Rattle.meta.specs.Page.{header_at, entries, decode_page}
+use Rattle.meta.specs.Name.{is_name, name_of, name_in}
+use Rattle.meta.specs.Entry.{entry_bytes, reserved_span}
+use Rattle.meta.specs.Check.{check_span, check_header, check_footprint, check_content, check_entry}
+use Rattle.meta.specs.Page.{header_at, header_bytes, entries, decode_page, page_bytes}
 use Rattle.starred.specs.Starred.{Starred, Capacities}
 
 pub starred : Starred
-unfolding crc32c final_remainder remainder digest reversed entries_per_page block_size encode_check first_verdicts first_tally row_rules verdicts judgement decode_page header_at entries le name_of is_name utf8 utf8_octets
+unfolding crc32c final_remainder remainder digest reversed entries_per_page block_size encode_check first_verdicts first_tally row_rules verdicts judgement decode_page header_at header_bytes page_bytes entries entry_bytes le name_of name_in is_name utf8 utf8_octets check_span check_header check_footprint check_content check_entry reserved_span
 starred =
     record {
       no_bytes = refl;
@@ -37,6 +39,17 @@ starred =
       empty_page = refl;
       letters_24 = refl;
       c0_80 = refl;
+      name_20 = refl;
+      name_7e = refl;
+      name_1f = refl;
+      name_7f = refl;
+      c2_80 = refl;
+      page_1f = refl;
+      entry_20 = refl;
+      entry_1f = refl;
+      no_name_1f = refl;
+      no_kind_1f = refl;
+      span_1f = refl;
       end_16384 = refl;
       file_16383 = refl;
     }

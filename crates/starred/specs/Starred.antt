@@ -19,10 +19,15 @@ use Rattle.judge.specs.declared.verdict.SlotVerdict.{SlotVerdict}
 use Rattle.judge.specs.declared.verdict.PairVerdict.{PairVerdict}
 use Rattle.meta.specs.Error.{number}
 use Rattle.meta.specs.Block.{entries_per_page}
-use Rattle.meta.specs.Name.{named}
+use Rattle.meta.specs.Name.{named, name_in}
 use Rattle.meta.specs.Volume.{table_end, check_file_len}
-use Rattle.meta.specs.Page.{decode_page}
+use Rattle.meta.specs.Entry.{entry_bytes, name_and_kind, reserved_span}
+use Rattle.meta.specs.Check.{check_entry}
+use Rattle.meta.specs.Page.{decode_page, page_bytes}
 use Rattle.meta.specs.declared.meta2.VolumeMeta2.{VolumeMeta2}
+use Rattle.meta.specs.declared.meta2.EntryLimits.{EntryLimits}
+use Rattle.meta.specs.declared.meta2.PageHeader.{PageHeader}
+use Rattle.meta.specs.declared.meta2.RawEntry.{RawEntry}
 
 -- ---- what the examples speak of
 
@@ -97,6 +102,37 @@ volume =
       flags = 0;
     }
 
+-- The entry of a slot region with a name of one byte, its headers in the two blocks after the table of that volume; and a page of it alone.
+abbrev pub entry_named : ℕ → RawEntry
+entry_named b =
+    record {
+      seq = 0;
+      kind = 3;
+      state = 1;
+      flags = 0;
+      compat_flags = 0;
+      name = b ∷ replicate 23 0;
+      tag = 0;
+      extent_count = 0;
+      reserved = 0;
+      header_a = 16384;
+      header_b = 20480;
+      data_size = 0;
+      capacity = 0;
+      span_start = 16384;
+      span_end = 24576;
+      footprint_seq = 1;
+    }
+
+abbrev pub limits : EntryLimits
+limits = record { log2_block = 12; table_end = 16384; file_len = 24576; page_meta_seq = 1 }
+
+abbrev pub one_entry : PageHeader
+one_entry = record { page_index = 0; next_seq = 1; count = 1 }
+
+abbrev pub page_named : ℕ → List ℕ
+page_named b = page_bytes one_entry (entry_bytes (entry_named b) ∷ [])
+
 -- ---- the examples
 
 pub record Starred : Type 0 where
@@ -135,6 +171,20 @@ pub record Starred : Type 0 where
   -- Name of 24 letters: accepted; C0 80 (hexadecimal): 35.
   pub letters_24 : named (replicate 24 0x61) ≡ Ok (record { bytes = replicate 24 0x61; len = 24 })
   pub c0_80 : refusal number (named (0xC0 ∷ 0x80 ∷ [])) ≡ 35
+  -- Names of one byte: 20 and 7E (hexadecimal) are accepted, 1F and 7F are 35. C2 80, the control character 80, is accepted.
+  pub name_20 : refusal number (named (0x20 ∷ [])) ≡ 0
+  pub name_7e : refusal number (named (0x7E ∷ [])) ≡ 0
+  pub name_1f : refusal number (named (0x1F ∷ [])) ≡ 35
+  pub name_7f : refusal number (named (0x7F ∷ [])) ≡ 35
+  pub c2_80 : refusal number (named (0xC2 ∷ 0x80 ∷ [])) ≡ 0
+  -- A page whose entry has the name 1F is read. The entry is 35, where with the name 20 it is accepted; it has no name and no kind, and keeps
+  -- its bytes reserved.
+  pub page_1f : decode_page (page_named 0x1F) 0 41 ≡ Ok one_entry
+  pub entry_20 : refusal number (check_entry (entry_named 0x20) limits) ≡ 0
+  pub entry_1f : refusal number (check_entry (entry_named 0x1F) limits) ≡ 35
+  pub no_name_1f : name_in (entry_named 0x1F).name ≡ None
+  pub no_kind_1f : name_and_kind (entry_named 0x1F) ≡ None
+  pub span_1f : reserved_span (entry_named 0x1F) limits ≡ Some (16384, 24576)
   -- Both log2 12, one page: end 16,384; file of 16,383: 26.
   pub end_16384 : table_end volume ≡ Ok 16384
   pub file_16383 : refusal number (check_file_len volume 16383) ≡ 26
