@@ -15,7 +15,7 @@ use Rattle.codec.specs.Bytes.{AllBytes, le, le32}
 use Rattle.codec.specs.Cursor.{write_row}
 use Rattle.codec.proofs.ByteLaws.{agree-number}
 use Rattle.codec.proofs.RowLaws.{row_front}
-use Rattle.meta.specs.Page.{header_at, header_fields, seq, shares, check_own, check_entries, entries, decoded_page, decode_page, header_row, header_bytes, stored_part, page_bytes, encode_page, Issued, Parts, AcceptablePage, PagesBack}
+use Rattle.meta.specs.Page.{header_at, header_fields, seq, shares, check_own, check_entries, entries, decoded_page, decode_page, header_row, header_bytes, stored_part, page_bytes, encode_page, Issued, Parts, AcceptablePage, PagesBack, Renamed, NamesIgnored}
 use Rattle.meta.specs.declared.meta.MetaError.{MetaError}
 use Rattle.meta.specs.declared.meta2.PageHeader.{PageHeader}
 use Rattle.meta.proofs.LayoutLaws.{header_layout}
@@ -187,6 +187,7 @@ entries_checked next (e ∷ es) (Issued.more below alone rest) (Zeros.more first
 
 record PageDecoded (s : List ℕ) (index most : ℕ) (h : PageHeader) : Type 0 where
   is : h ≡ header_fields s
+  same : h.page_index ≡ index
   zeros : list_all (λ b. b == 0) (take 14 (drop 10 s)) ≡ true
   within : h.count ≤ most
   given_out : h.count ≤ h.next_seq
@@ -212,6 +213,7 @@ page_decoded s index most h is = go (ltb (length s) 24) (rw (header_layout s) at
         rw h-is
         (record {
           is = refl;
+          same = eqb-true _ _ (not-false _ same.0);
           zeros = not-false _ zeros.0;
           within = grind arith;
           given_out = grind arith;
@@ -327,3 +329,59 @@ pages_back =
       accepted = accepted;
       written_back = written_back;
     }
+
+-- ---- entries with other names
+
+module _ (e name : List ℕ) (size : length e ≡ 96) (named : length name ≡ 24) where
+  abbrev renamed : List ℕ
+  renamed = take 8 e ++ name ++ drop 32 e
+
+  first : length (take 8 e) ≡ 8
+  first = length-take-le 8 e (omega arith)
+
+  length_renamed : length renamed ≡ 96
+  length_renamed = simp (length-append, length-drop) (omega (arith, first))
+
+  seq_renamed : seq renamed ≡ seq e
+  seq_renamed =
+      let front : take 8 renamed ≡ take 8 e =
+      ap (take 8) (append_assoc (take 8 e) name (drop 32 e)) ∙ take_at (take 8 e) (name ++ drop 32 e) 8 first in
+      agree-number 8 renamed e front w32 0 (omega arith)
+
+parts_renamed : {es fs : List (List ℕ)} → Renamed es fs → Parts es → Parts fs
+parts_renamed Renamed.none Parts.none = Parts.none
+parts_renamed (Renamed.more e name named others) (Parts.more size rest) =
+    Parts.more (length_renamed e name size named) (parts_renamed others rest)
+
+count_renamed : {es fs : List (List ℕ)} → Renamed es fs → length fs ≡ length es
+count_renamed Renamed.none = refl
+count_renamed (Renamed.more e name named others) = ap suc (count_renamed others)
+
+shares_renamed : (n : ℕ) {es fs : List (List ℕ)} → Renamed es fs → Parts es → shares n fs ≡ shares n es
+shares_renamed n Renamed.none Parts.none = refl
+shares_renamed n (Renamed.more e name named others) (Parts.more size rest) =
+    rw (seq_renamed e name size named, shares_renamed n others rest) refl
+
+issued_renamed : (next : ℕ) {es fs : List (List ℕ)} → Renamed es fs → Parts es → Issued next es → Issued next fs
+issued_renamed next Renamed.none Parts.none Issued.none = Issued.none
+issued_renamed next (Renamed.more e name named others) (Parts.more size rest) (Issued.more below alone issued) =
+    Issued.more (rw (seq_renamed e name size named) below) (rw (seq_renamed e name size named) (shares_renamed (seq e) others rest ∙ alone)) (issued_renamed next others rest issued)
+
+acceptable_renamed : (h : PageHeader) {es fs : List (List ℕ)} (most : ℕ) → Renamed es fs → AcceptablePage h es most → AcceptablePage h fs most
+acceptable_renamed h most renamed a =
+    record {
+      index = a.index;
+      next = a.next;
+      count = a.count;
+      whole = count_renamed renamed ∙ a.whole;
+      parts = parts_renamed renamed a.parts;
+      within = a.within;
+      given_out = a.given_out;
+      issued = issued_renamed h.next_seq renamed a.parts a.issued;
+    }
+
+pub names_ignored : NamesIgnored
+names_ignored s fs index most h small is renamed =
+    let same = (page_decoded s index most h is).same in
+    subst (λ (i : ℕ). decode_page (page_bytes h fs) i most ≡ Ok h) same
+    (page_read h fs most (acceptable_renamed h most renamed (accepted s index most h small is)))

@@ -138,3 +138,13 @@ pub record PagesBack : Type 0 where
       → AcceptablePage h (entries s) most
   pub written_back : (s : List ℕ) (index most : ℕ) (h : PageHeader) → AllBytes s → decode_page s index most ≡ Ok h
       → page_bytes h (entries s) ≡ s
+
+-- The same entries with other names, each of 24 bytes at 8.
+pub data Renamed : List (List ℕ) → List (List ℕ) → Type 0 where
+  none : Renamed [] []
+  more : (e name : List ℕ) {es fs : List (List ℕ)} → length name ≡ 24 → Renamed es fs → Renamed (e ∷ es) ((take 8 e ++ name ++ drop 32 e) ∷ fs)
+
+-- A page that is read is read with any names in its entries.
+abbrev pub NamesIgnored : Type 0
+NamesIgnored = (s : List ℕ) (fs : List (List ℕ)) (index most : ℕ) (h : PageHeader) → AllBytes s → decode_page s index most ≡ Ok h
+    → Renamed (entries s) fs → decode_page (page_bytes h fs) index most ≡ Ok h

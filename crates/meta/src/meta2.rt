@@ -50,7 +50,7 @@ ghost use Rattle.meta.specs.Volume.{tail_at, check_tail, decode_volume, volume_r
 ghost use Rattle.meta.specs.Entry.{read_entry, entry_row, write_entry, name_and_kind, whole_up, reserved_span, to_raw, EntryLayout};
 ghost use Rattle.meta.specs.Check.{check_span, check_header, check_footprint, check_content, check_sizes, check_entry, EntriesBack};
 ghost use Rattle.meta.specs.Table.{Table};
-ghost use Rattle.meta.specs.Page.{header_at, decode_page, Gives, parts, entries, seq, shares, check_own, check_entries, header_row, stored_part, encode_page, HeaderLayout, PagesBack};
+ghost use Rattle.meta.specs.Page.{header_at, decode_page, Gives, parts, entries, seq, shares, check_own, check_entries, header_row, stored_part, encode_page, HeaderLayout, PagesBack, NamesIgnored};
 
 use crate::meta::{
     Field, MAX_LOG2_BLOCK, MIN_LOG2_BLOCK, MetaError, NAME_MAX, RegionKind, RegionName,
@@ -907,6 +907,12 @@ pub fn entries_back()
 #[tactic(auto, using(crate::proofs::PageLaws::pages_back))]
 pub fn pages_back()
     ensures { PagesBack }
+{}
+
+/// Does nothing: its contract is that a page is read whatever the names of its entries.
+#[tactic(auto, using(crate::proofs::PageLaws::names_ignored))]
+pub fn ignored_law()
+    ensures { NamesIgnored }
 {}
 
 /// Does nothing: its contract is the table of all places and numbers.
