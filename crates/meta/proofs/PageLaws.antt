@@ -137,14 +137,23 @@ stored_zeros : (es : List (List ℕ)) → Parts es → Zeros (map stored_part es
 stored_zeros [] Parts.none = Zeros.none
 stored_zeros (e ∷ es) (Parts.more size others) = Zeros.more (zero_38 e size) (zero_39 e size) (stored_zeros es others)
 
-shares_stored : (n : ℕ) (es : List (List ℕ)) → Parts es → shares n (map stored_part es) ≡ shares n es
-shares_stored n [] Parts.none = refl
-shares_stored n (e ∷ es) (Parts.more size others) = rw (seq_stored e size, shares_stored n es others) refl
+-- Entries with the same sequence numbers, one by one.
+data Alike : List (List ℕ) → List (List ℕ) → Type 0 where
+  none : Alike [] []
+  more : {e f : List ℕ} {es fs : List (List ℕ)} → seq f ≡ seq e → Alike es fs → Alike (e ∷ es) (f ∷ fs)
 
-stored_issued : (next : ℕ) (es : List (List ℕ)) → Parts es → Issued next es → Issued next (map stored_part es)
-stored_issued next [] Parts.none Issued.none = Issued.none
-stored_issued next (e ∷ es) (Parts.more size others) (Issued.more below alone rest) =
-    Issued.more (rw (seq_stored e size) below) (rw (seq_stored e size) (shares_stored (seq e) es others ∙ alone)) (stored_issued next es others rest)
+shares_alike : (n : ℕ) {es fs : List (List ℕ)} → Alike es fs → shares n fs ≡ shares n es
+shares_alike n Alike.none = refl
+shares_alike n (Alike.more same others) = rw (same, shares_alike n others) refl
+
+issued_alike : (next : ℕ) {es fs : List (List ℕ)} → Alike es fs → Issued next es → Issued next fs
+issued_alike next Alike.none Issued.none = Issued.none
+issued_alike next (Alike.more {e = e} same others) (Issued.more below alone rest) =
+    Issued.more (rw same below) (rw same (shares_alike (seq e) others ∙ alone)) (issued_alike next others rest)
+
+stored_alike : (es : List (List ℕ)) → Parts es → Alike es (map stored_part es)
+stored_alike [] Parts.none = Alike.none
+stored_alike (e ∷ es) (Parts.more size others) = Alike.more (seq_stored e size) (stored_alike es others)
 
 stored_all : (es : List (List ℕ)) → Parts es → Zeros es → flat_map stored_part es ≡ concat es
 stored_all [] Parts.none Zeros.none = refl
@@ -301,7 +310,7 @@ module _ (h : PageHeader) (es : List (List ℕ)) (most : ℕ) (a : AcceptablePag
   unfolding decode_page
   page_read =
       let checked : check_entries h.next_seq (entries page) ≡ Ok tt =
-      ap (check_entries h.next_seq) entries_read ∙ entries_checked h.next_seq (map stored_part es) (stored_issued h.next_seq es a.parts a.issued) (stored_zeros es a.parts) in
+      ap (check_entries h.next_seq) entries_read ∙ entries_checked h.next_seq (map stored_part es) (issued_alike h.next_seq (stored_alike es a.parts) a.issued) (stored_zeros es a.parts) in
       simp (header_at_page, eq-eqb h.page_index h.page_index refl, le-ltb most h.count a.within, le-ltb h.next_seq h.count a.given_out, eq-eqb (length page) (24 + h.count * 96) length_page, checked)
 
 -- The first bytes of the buffer are the page.
@@ -357,15 +366,10 @@ count_renamed : {es fs : List (List ℕ)} → Renamed es fs → length fs ≡ le
 count_renamed Renamed.none = refl
 count_renamed (Renamed.more e name named others) = ap suc (count_renamed others)
 
-shares_renamed : (n : ℕ) {es fs : List (List ℕ)} → Renamed es fs → Parts es → shares n fs ≡ shares n es
-shares_renamed n Renamed.none Parts.none = refl
-shares_renamed n (Renamed.more e name named others) (Parts.more size rest) =
-    rw (seq_renamed e name size named, shares_renamed n others rest) refl
-
-issued_renamed : (next : ℕ) {es fs : List (List ℕ)} → Renamed es fs → Parts es → Issued next es → Issued next fs
-issued_renamed next Renamed.none Parts.none Issued.none = Issued.none
-issued_renamed next (Renamed.more e name named others) (Parts.more size rest) (Issued.more below alone issued) =
-    Issued.more (rw (seq_renamed e name size named) below) (rw (seq_renamed e name size named) (shares_renamed (seq e) others rest ∙ alone)) (issued_renamed next others rest issued)
+renamed_alike : {es fs : List (List ℕ)} → Renamed es fs → Parts es → Alike es fs
+renamed_alike Renamed.none Parts.none = Alike.none
+renamed_alike (Renamed.more e name named others) (Parts.more size rest) =
+    Alike.more (seq_renamed e name size named) (renamed_alike others rest)
 
 acceptable_renamed : (h : PageHeader) {es fs : List (List ℕ)} (most : ℕ) → Renamed es fs → AcceptablePage h es most → AcceptablePage h fs most
 acceptable_renamed h most renamed a =
@@ -377,7 +381,7 @@ acceptable_renamed h most renamed a =
       parts = parts_renamed renamed a.parts;
       within = a.within;
       given_out = a.given_out;
-      issued = issued_renamed h.next_seq renamed a.parts a.issued;
+      issued = issued_alike h.next_seq (renamed_alike renamed a.parts) a.issued;
     }
 
 pub names_ignored : NamesIgnored
