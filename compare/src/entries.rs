@@ -28,25 +28,14 @@ const NAME_AND_KIND_OTHER: &str = "sio_entry_name_and_kind: the Rust's other ans
 pub const PLACE: &str = "sio_check_entry: refused for";
 
 const WHOLE: &[Answer] = &[Answer::Done, Answer::Refusal(11)];
+/// The refusals up to that of the name, then what is answered after it.
 const CHECKS: &[Answer] = &[
-    Answer::Done,
     Answer::Refusal(11),
-    Answer::Refusal(13),
     Answer::Refusal(21),
     Answer::Refusal(32),
     Answer::Refusal(33),
     Answer::Refusal(34),
     Answer::Refusal(35),
-    Answer::Refusal(36),
-    Answer::Refusal(37),
-    Answer::Refusal(38),
-    Answer::Refusal(39),
-    Answer::Refusal(40),
-    Answer::Refusal(41),
-    Answer::Refusal(42),
-];
-/// What the Rust answers of an entry whose name is not printable: done, or a check after that of the name.
-const OTHER_CHECKS: &[Answer] = &[
     Answer::Done,
     Answer::Refusal(13),
     Answer::Refusal(36),
@@ -57,6 +46,8 @@ const OTHER_CHECKS: &[Answer] = &[
     Answer::Refusal(41),
     Answer::Refusal(42),
 ];
+/// What the Rust answers of an entry whose name is not printable.
+const OTHER_CHECKS: &[Answer] = CHECKS.split_at(6).1;
 const OTHER_NAMES: &[Answer] = &[Answer::Done];
 const NAMES: &[Answer] = &[Answer::Decision("a name"), Answer::Decision("no name"), Answer::Refusal(11)];
 const KINDS: &[Answer] = &[
