@@ -1,8 +1,7 @@
 -- What the judge over frames answers is the judge's answer over their row, and its verdicts, four bytes each, are those bytes joined.
-use Rattle.std.proofs.Common.{◌≡◌, refl, ap, ◌∙◌, true, List, [], ◌∷◌, ◌++◌, ℕ, zero, suc, ◌+◌, ◌*◌, ◌/◌, ◌%◌, ◌<◌, ◌&&◌, length, get_or, set, take, drop, map, flat_map, slice_get, arith, eqb, leb, eq-eqb, Some, None}
+use Rattle.std.proofs.Common.{◌≡◌, refl, ap, ◌∙◌, Bool, true, false, not, List, [], ◌∷◌, ◌++◌, ℕ, zero, suc, ◌+◌, ◌*◌, ◌/◌, ◌%◌, ◌<◌, ◌&&◌, length, get_or, set, take, drop, map, flat_map, slice_get, arith, eqb, leb, eqb-true, eq-eqb, Some, None}
 use Rattle.std.specs.List.{list_all}
 use Rattle.judge.specs.declared.verdict.PairVerdict.{PairVerdict}
-use Rattle.judge.specs.declared.verdict.JudgeError.{JudgeError}
 use Rattle.judge.specs.Judge.{error}
 use Rattle.judge.specs.Frames.{frame_width, verdict_width, pair_count, pair_in_range, frames, verdict_bytes, verdict_from, verdict_cells, row_bytes, frames_error}
 
@@ -10,17 +9,33 @@ use Rattle.judge.specs.Frames.{frame_width, verdict_width, pair_count, pair_in_r
 pub same_test : (m n j k : ℕ) → (m ≡ n → j ≡ k) → (j ≡ k → m ≡ n) → eqb m n ≡ eqb j k
 same_test m n j k there back = grind (arith, there, back)
 
-pub ragged : (s : List ℕ) (clean room : ℕ) → (length s % frame_width ≡ 0 → ⊥) → frames_error s clean room ≡ Some JudgeError.OutOfRange
+-- A part of a frame follows the whole ones.
+abbrev pub has_rest : List ℕ → Bool
+has_rest s = not (eqb (length s % frame_width) 0)
+
+-- The error by the whole frames, and by whether a part of one follows.
+pub by_row : (s : List ℕ) (clean room : ℕ)
+    → frames_error s clean room
+    ≡ error (not (has_rest s) && eqb (pair_count s) 0) (not (has_rest s)) (eqb room (pair_count s * verdict_width))
+    (leb clean 1 && list_all pair_in_range (frames s))
 unfolding frames_error
-ragged s clean room part = grind (arith, part)
+by_row s clean room = go (eqb (length s % frame_width) 0) refl
+  where
+    go : (whole : Bool) → eqb (length s % frame_width) 0 ≡ whole
+        → error (eqb (length s) 0) whole (eqb room (pair_count s * verdict_width)) (leb clean 1 && list_all pair_in_range (frames s))
+        ≡ error (not (not whole) && eqb (pair_count s) 0) (not (not whole)) (eqb room (pair_count s * verdict_width))
+        (leb clean 1 && list_all pair_in_range (frames s))
+    go true is =
+        let whole = eqb-true (length s % frame_width) 0 is in
+        rw (same_test (length s) 0 (pair_count s) 0 (λ is. omega (arith, is)) (λ is. omega (arith, is)))
+    go false is =
+        let some : eqb (length s) 0 ≡ false = grind (arith, is) in
+        rw some
 
 pub whole : (s : List ℕ) (clean room : ℕ) → length s % frame_width ≡ 0
     → frames_error s clean room
     ≡ error (eqb (pair_count s) 0) true (eqb room (pair_count s * verdict_width)) (leb clean 1 && list_all pair_in_range (frames s))
-unfolding frames_error
-whole s clean room frames_are =
-    let none = same_test (length s) 0 (pair_count s) 0 (λ is. omega (arith, is)) (λ is. omega (arith, is)) in
-    rw (none, eq-eqb (length s % frame_width) 0 frames_are)
+whole s clean room frames_are = by_row s clean room ∙ rw (eq-eqb (length s % frame_width) 0 frames_are)
 
 -- Without an error the lent bytes are whole verdicts.
 pub room : (s : List ℕ) (clean len new : ℕ) → len ≡ new → frames_error s clean len ≡ None → new % verdict_width ≡ 0

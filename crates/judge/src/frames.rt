@@ -129,11 +129,8 @@ pub fn judge(frames: &[u8], clean: u8, out: &mut [u8]) -> Result<Judgement, Judg
     ensures out_after { out.new ≡ frames_left frames.now clean out.old }
 {
     let (pairs, rest) = frames.as_chunks::<FRAME>();
-    if !rest.is_empty() {
-        return Err(JudgeError::OutOfRange);
-    }
     let mut out = VerdictBytes(out);
-    let answer = crate::row::judge(pairs, clean, &mut out);
+    let answer = crate::row::judge(pairs, !rest.is_empty(), clean, &mut out);
     let VerdictBytes(_) = out;
     answer
 }
@@ -143,10 +140,7 @@ pub fn maxima(frames: &[u8], clean: u8) -> Result<Maxima, JudgeError>
     ensures { result ≡ frames_maxima frames.now clean }
 {
     let (pairs, rest) = frames.as_chunks::<FRAME>();
-    if !rest.is_empty() {
-        return Err(JudgeError::OutOfRange);
-    }
-    crate::row::admit(pairs, clean, true)
+    crate::row::admit(pairs, !rest.is_empty(), clean, true)
 }
 
 // The slot of such frames that the judge names for healing, and its pair.

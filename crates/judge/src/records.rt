@@ -109,7 +109,7 @@ pub fn judge(
     ensures out_after { out.new ≡ records_left pairs.now clean_close out.old }
 {
     let mut out = VerdictSlice(out);
-    let answer = crate::row::judge(pairs, clean_close as u8, &mut out);
+    let answer = crate::row::judge(pairs, false, clean_close as u8, &mut out);
     let VerdictSlice(_) = out;
     answer
 }

@@ -1,6 +1,6 @@
 // The judge of a row of pairs, whatever they and the lent verdicts are kept in. The row is gone through three times: for the ranges and
 // the highest numbers, for each pair's own verdict, and for the rules of the whole store. Pair 0 is the volume record.
-ghost use Rattle.std.specs.Prelude.{◌≡◌, ◌<◌, ◌≤◌, ◌==◌, ◌&&◌, nat_le, ℕ, Bool, List, if◌then◌else◌, length, map, true, Some, None, slice_get, slice_set, OnOk, OnErr};
+ghost use Rattle.std.specs.Prelude.{◌≡◌, ◌<◌, ◌≤◌, ◌==◌, not, ◌&&◌, nat_le, ℕ, Bool, List, if◌then◌else◌, length, map, true, Some, None, slice_get, slice_set, OnOk, OnErr};
 ghost use Rattle.std.specs.List.{list_all};
 ghost use Rattle.std.specs.Borrow.{GName};
 ghost use Rattle.judge.specs.declared.pairs.Pair.{Pair};
@@ -123,13 +123,22 @@ fn second_pass<V: Verdicts>(
     heal
 }
 
-// The refusals in their order, and the highest numbers where there is none. `room`: there is room for the verdicts.
+// The refusals in their order, and the highest numbers where there is none. `rest`: a part of a pair follows; `room`: there is room for
+// the verdicts.
 #[inline(always)]
-pub(crate) fn admit<P: ReadPair>(pairs: &[P], clean: u8, room: bool) -> Result<Maxima, JudgeError>
-    ensures { result ≡ unless (error (length pairs.now == 0) true room (nat_le clean 1 && list_all P.within pairs.now)) (note_all no_maxima (slots (map P.shown pairs.now))) }
+pub(crate) fn admit<P: ReadPair>(
+    pairs: &[P],
+    rest: bool,
+    clean: u8,
+    room: bool,
+) -> Result<Maxima, JudgeError>
+    ensures { result ≡ unless (error (not rest && length pairs.now == 0) (not rest) room (nat_le clean 1 && list_all P.within pairs.now)) (note_all no_maxima (slots (map P.shown pairs.now))) }
 {
-    if pairs.is_empty() {
+    if !rest && pairs.is_empty() {
         return Err(JudgeError::Empty);
+    }
+    if rest {
+        return Err(JudgeError::OutOfRange);
     }
     if !room {
         return Err(JudgeError::OutputLength);
@@ -143,18 +152,20 @@ pub(crate) fn admit<P: ReadPair>(pairs: &[P], clean: u8, room: bool) -> Result<M
     Ok(m)
 }
 
-// Judges every pair and writes its verdict. `clean` is the volume winner's clean mark, 0 or 1. Nothing is written where there is an error.
+// Judges every pair and writes its verdict. `rest`: a part of a pair follows; `clean` is the volume winner's clean mark, 0 or 1. Nothing is
+// written where there is an error.
 pub(crate) fn judge<P: ReadPair, V: Verdicts>(
     pairs: &[P],
+    rest: bool,
     clean: u8,
     out: &mut V,
 ) -> Result<Judgement, JudgeError>
-    ensures value { result ≡ unless (error (length pairs.now == 0) true (V.fitting out.old (length pairs.now)) (nat_le clean 1 && list_all P.within pairs.now)) (judgement (map P.shown pairs.now) (clean == 1)) }
+    ensures value { result ≡ unless (error (not rest && length pairs.now == 0) (not rest) (V.fitting out.old (length pairs.now)) (nat_le clean 1 && list_all P.within pairs.now)) (judgement (map P.shown pairs.now) (clean == 1)) }
     ensures cells { OnOk result (V.cells out.new ≡ map V.cell (verdicts (map P.shown pairs.now) (clean == 1))) }
     ensures kept { OnErr result (out.new ≡ out.old) }
     ensures place { V.place out.new ≡ V.place out.old }
 {
-    let m = admit(pairs, clean, out.fits(pairs.len()))?;
+    let m = admit(pairs, rest, clean, out.fits(pairs.len()))?;
     let tally = first_pass(pairs, m, out);
     let volume = out.verdict(0);
     let rules = tally.rules(clean == 1, volume);
