@@ -1,6 +1,7 @@
 -- The numbers of a store's frames fit their fields, since they are read from bytes. So the judge over the frames answers as the judge over
 -- the row of pairs.
-use Rattle.std.proofs.Common.{◌≡◌, refl, ◌∙◌, Bool, true, false, cond, not, List, [], ◌∷◌, ℕ, ◌*◌, ◌≤◌, arith, ne_eqb, eq-eqb, nat_lt, nat_le, ◌==◌, length, Some, None, Ok, is_ok, lit<}
+use Rattle.std.proofs.Common.{◌≡◌, refl, ◌∙◌, Bool, true, false, cond, not, List, [], ◌∷◌, ℕ, ◌*◌, ◌≤◌, arith, ne_eqb, eq-eqb, le-ltb, nat_lt, nat_le, ◌==◌, length, Some, None, Ok, is_ok, lit<}
+use Rattle.std.proofs.lemmas.List.{length-map}
 use Rattle.codec.specs.Bytes.{AllBytes}
 use Rattle.slot.specs.Status.{info}
 use Rattle.slot.specs.Header.{header}
@@ -9,13 +10,13 @@ use Rattle.slot.specs.declared.slot.Expect.{Expect}
 use Rattle.slot.specs.declared.slot.SlotStatus.{SlotStatus}
 use Rattle.slot.proofs.HeaderLaws.{header_layout}
 use Rattle.judge.specs.Part.{version_of_facts, version_by}
-use Rattle.judge.specs.Judge.{verdicts, judgement}
-use Rattle.judge.specs.Frames.{verdict_width, row_bytes, judge_frames, frames_left}
+use Rattle.judge.specs.Judge.{most_pairs, verdicts, judgement}
+use Rattle.judge.specs.Frames.{verdict_width, pair_count, row_bytes, judge_frames, frames_left}
 use Rattle.judge.specs.Records.{judge_records, records_left}
 use Rattle.judge.specs.Same.{VersionFits, AllFit, mark}
 use Rattle.judge.specs.declared.verdict.PairVerdict.{PairVerdict}
-use Rattle.judge.proofs.SameLaws.{framed_error, answer-is, verdicts-are}
-use Rattle.cut.specs.Store.{Every, Pair, framed, reads, shown, frames, Typed}
+use Rattle.judge.proofs.SameLaws.{count-is, framed_error, answer-is, verdicts-are}
+use Rattle.cut.specs.Store.{Every, Pair, framed_pair, framed, reads, shown, frames, Typed}
 use Rattle.cut.proofs.ByteLaws.{le32_lt, le64_lt}
 use Rattle.cut.proofs.StatusLaws.{valid_is}
 
@@ -77,11 +78,14 @@ row_fits (Every.more {x = p} typed rest) = (
 
 -- ---- nothing is refused
 
+pub count_frames : (ps : List Pair) → pair_count (frames ps) ≡ length ps
+count_frames ps = count-is (framed ps) ∙ length-map ps framed_pair
+
 length_reads : (ps : List Pair) → length (reads ps) ≡ length ps
 length_reads [] = refl
 length_reads (p ∷ ps) = simp (length_reads ps)
 
-module _ (ps : List Pair) (some : 1 ≤ length ps) (clean : Bool) where
+module _ (ps : List Pair) (some : 1 ≤ length ps) (few : length ps ≤ most_pairs) (clean : Bool) where
   full : (length ps ≡ 0 → ⊥)
   full = omega arith
 
@@ -92,16 +96,23 @@ module _ (ps : List Pair) (some : 1 ≤ length ps) (clean : Bool) where
 
   pub row_judged : judge_records (reads ps) clean (length ps) ≡ Ok (judgement (shown ps) clean)
   unfolding judge_records
-  row_judged = simp (length_reads ps, ne_eqb (length ps) 0 full, eq-eqb (length ps) (length ps) refl)
+  row_judged = simp (length_reads ps, ne_eqb (length ps) 0 full, le-ltb most_pairs (length ps) few, eq-eqb (length ps) (length ps) refl)
 
   pub row_written : (rows : List PairVerdict) → length rows ≡ length ps → records_left (reads ps) clean rows ≡ verdicts (shown ps) clean
   unfolding records_left
-  row_written rows room = simp (length_reads ps, room, ne_eqb (length ps) 0 full, eq-eqb (length ps) (length ps) refl)
+  row_written rows room = simp (length_reads ps, room, ne_eqb (length ps) 0 full, le-ltb most_pairs (length ps) few, eq-eqb (length ps) (length ps) refl)
 
   module _ (typed : Every PairTyped ps) (out : List ℕ) (room : length out ≡ length ps * verdict_width) where
     nothing_refused : framed_error (reads ps) (mark clean) (length out) ≡ None
     nothing_refused =
-        simp (room, length_reads ps, ne_eqb (length ps) 0 full, eq-eqb (length ps * verdict_width) (length ps * verdict_width) refl, (mark_back clean).0)
+        simp (
+          room,
+          length_reads ps,
+          ne_eqb (length ps) 0 full,
+          le-ltb most_pairs (length ps) few,
+          eq-eqb (length ps * verdict_width) (length ps * verdict_width) refl,
+          (mark_back clean).0,
+        )
 
     pub judged_row : judge_frames (frames ps) (mark clean) (length out) ≡ Ok (judgement (shown ps) clean)
     judged_row = answer-is (framed ps) (row_fits typed) (mark clean) (length out) ∙ simp (nothing_refused, (mark_back clean).1)

@@ -6,7 +6,7 @@ use Rattle.slot.specs.declared.slot.SlotInfo.{SlotInfo}
 use Rattle.judge.specs.Pairs.{pair_case}
 use Rattle.judge.specs.Numbers.{slots, qualifies}
 use Rattle.judge.specs.Verdict.{winner_beside, pair_verdict, is_in_flight}
-use Rattle.judge.specs.Judge.{verdicts_from, first_verdicts, volume_verdict, mark_counts, pair_heal, verdicts, judgement}
+use Rattle.judge.specs.Judge.{verdicts_from, first_verdicts, volume_verdict, mark_counts, pair_heal, verdicts, judgement, most_pairs}
 use Rattle.judge.specs.Frames.{verdict_width, row_bytes}
 use Rattle.judge.specs.declared.pairs.Shown.{Shown}
 use Rattle.judge.specs.declared.verdict.SlotVerdict.{SlotVerdict}
@@ -128,16 +128,16 @@ module _ {before behind : List Pair} (rest_before : Every Rested before) (rest_b
   some : 1 ≤ length row
   some = let all = length-append before (p ∷ behind) in omega arith
 
-  pub row_stands : PairTyped p → (out : List ℕ) → length out ≡ length (before ++ p ∷ behind) * verdict_width
+  pub row_stands : PairTyped p → length (before ++ p ∷ behind) ≤ most_pairs → (out : List ℕ) → length out ≡ length (before ++ p ∷ behind) * verdict_width
       → Confirmed (before ++ p ∷ behind) clean out (rested_verdicts rest_before ++ winner_beside x v ∷ rested_verdicts rest_behind)
       (judgement (shown (before ++ p ∷ behind)) clean)
-  row_stands typed out room =
+  row_stands typed few out room =
       let all = row_typed rest_before typed rest_behind in
       record {
-        answer = judged_row row some clean all out room;
-        written = judged_bytes row some clean all out room ∙ ap row_bytes verdicts_are;
-        row_answer = row_judged row some clean;
-        row_written = λ rows rows_room. row_written row some clean rows rows_room ∙ verdicts_are;
+        answer = judged_row row some few clean all out room;
+        written = judged_bytes row some few clean all out room ∙ ap row_bytes verdicts_are;
+        row_answer = row_judged row some few clean;
+        row_written = λ rows rows_room. row_written row some few clean rows rows_room ∙ verdicts_are;
         confirmed =
             row_confirmed (winner_beside x v) (rested_verdicts rest_behind) (rested_settled rest_behind) (explained_standing explained)
             (rested_settled rest_before);

@@ -9,7 +9,7 @@ use Rattle.slot.specs.declared.slot.SlotInfo.{SlotInfo}
 use Rattle.judge.specs.Pairs.{numbered}
 use Rattle.judge.specs.Numbers.{number, slots}
 use Rattle.judge.specs.Verdict.{winner_beside, is_in_flight}
-use Rattle.judge.specs.Judge.{volume_verdict, mark_counts, judgement}
+use Rattle.judge.specs.Judge.{volume_verdict, mark_counts, judgement, most_pairs}
 use Rattle.judge.specs.Frames.{verdict_width}
 use Rattle.judge.specs.declared.verdict.SlotVerdict.{SlotVerdict}
 use Rattle.judge.specs.declared.verdict.PairVerdict.{PairVerdict}
@@ -117,7 +117,7 @@ module _ (p : Pair) (index : SlotIndex) (i : SlotInfo) (n : ℕ) (whole : Bool) 
 
 module _ (w : Write) (sound_before : Every SoundPair w.before) (sound : SoundPair w.pair) (sound_behind : Every SoundPair w.behind)
     (correct : CorrectWrite w) (possible : Possible w.tear (size w)) (none : Accident (left w) (old w) (new w) w.payload → ⊥)
-    (out : List ℕ) (room : length out ≡ length (store w) * verdict_width) where
+    (few : length (store w) ≤ most_pairs) (out : List ℕ) (room : length out ≡ length (store w) * verdict_width) where
   abbrev p : Pair
   p = with_slot w.index (left w) w.pair
 
@@ -178,16 +178,16 @@ module _ (w : Write) (sound_before : Every SoundPair w.before) (sound : SoundPai
   healed_is _ Healed.none = inl refl
   healed_is _ (Healed.slot flight) = inr (ap (λ (index : SlotIndex). Some (length w.before, index)) (answer.flight flight))
 
-  room_after : length out ≡ length (after w) * verdict_width
-  room_after =
-      room ∙ ap (λ (n : ℕ). n * verdict_width) (length-append w.before (w.pair ∷ w.behind) ∙ sym (length-append w.before (p ∷ w.behind)))
+  same_length : length (store w) ≡ length (after w)
+  same_length = length-append w.before (w.pair ∷ w.behind) ∙ sym (length-append w.before (p ∷ w.behind))
 
   survives : Survives w out
   survives =
       record {
         verdict = rested_verdicts rest_before ++ winner_beside answer.winner answer.verdict ∷ rested_verdicts rest_behind;
         judgement = judgement (shown (after w)) (handed w);
-        judged = row_stands rest_before rest_behind p answer.explained answer.stands (handed w) unmarked answer.typed out room_after;
+        judged = row_stands rest_before rest_behind p answer.explained answer.stands (handed w) unmarked answer.typed
+            (subst (λ (n : ℕ). n ≤ most_pairs) same_length few) out (room ∙ ap (λ (n : ℕ). n * verdict_width) same_length);
         heal =
             healed_is (judgement (shown (after w)) (handed w)).heal
             (rw (heal_is rest_before rest_behind p answer.explained answer.stands (handed w) unmarked)
@@ -197,11 +197,11 @@ module _ (w : Write) (sound_before : Every SoundPair w.before) (sound : SoundPai
 
 -- The store's clean mark plays no part: the judge is handed false, or a mark that meets no candidate.
 pub older_survived : OlderSurvived
-older_survived w sound no_mark correct possible none out room =
+older_survived w sound few no_mark correct possible none out room =
     let all = every_split w.before w.pair w.behind (sound_pairs sound) in
-    survives w all.0 all.1 all.2 correct possible none out room
+    survives w all.0 all.1 all.2 correct possible none few out room
 
 -- Nor does what sectors add to the accidents.
 pub cut_theorem : CutTheorem
-cut_theorem w sound no_mark correct possible none out room =
-    older_survived w sound no_mark correct possible (none_of_either w.tear none) out room
+cut_theorem w sound few no_mark correct possible none out room =
+    older_survived w sound few no_mark correct possible (none_of_either w.tear none) out room

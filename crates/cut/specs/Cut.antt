@@ -1,6 +1,7 @@
--- The cut theorem (docs/FORMAT.md, "The sound store and the cut"): a correct write to a sound store is cut, after k of its bytes or with
--- some of its sectors. Unless an accident happened, every pair is judged Confirmed, the store is writable, no slot but the written one is
--- healed, and every pair's last written record is read back: in the written pair the new one if and only if it stands whole.
+-- The cut theorem (docs/FORMAT.md, "The sound store and the cut"): a correct write to a sound store of as many pairs as are judged is cut,
+-- after k of its bytes or with some of its sectors. Unless an accident happened, every pair is judged Confirmed, the store is writable, no
+-- slot but the written one is healed, and every pair's last written record is read back: in the written pair the new one if and only if it
+-- stands whole.
 --
 -- The definitions of other crates that are named here are those that the contracts of `encode`, `validate`, `header_facts`, `judge`, the
 -- winner's payload and the decoders state.
@@ -21,6 +22,7 @@ use Rattle.slot.specs.declared.slot.Expect.{Expect}
 use Rattle.pair.specs.Pair.{winner_info}
 use Rattle.pair.specs.Winner.{WinnerPart}
 use Rattle.judge.specs.Numbers.{slots, highest}
+use Rattle.judge.specs.Judge.{most_pairs}
 use Rattle.judge.specs.Frames.{verdict_width, row_bytes, judge_frames, frames_left}
 use Rattle.judge.specs.Records.{judge_records, records_left}
 use Rattle.judge.specs.Same.{mark}
@@ -241,6 +243,7 @@ abbrev pub CutTheorem : Type 0
 CutTheorem =
     (w : Write)
     → Sound (store w)
+    → length (store w) ≤ most_pairs
     → store_mark (store w) ≡ false
     → CorrectWrite w
     → Possible w.tear (size w)

@@ -1,12 +1,13 @@
 -- Laws on the words of the cut theorem (docs/FORMAT.md, "The sound store and the cut"). It would also hold of a store that always has the
 -- mark, of a decoder that accepts anything or of a frame that holds less; these laws would not. Each is the contract of a function.
-use Rattle.std.specs.Prelude.{◌≡◌, Bool, true, false, if◌then◌else◌, List, [], ◌∷◌, ◌++◌, ℕ, ◌*◌, length, get_or, take, drop, Ok, Err}
+use Rattle.std.specs.Prelude.{◌≡◌, Bool, true, false, if◌then◌else◌, List, [], ◌∷◌, ◌++◌, ℕ, ◌*◌, ◌≤◌, length, get_or, take, drop, Ok, Err}
 use Rattle.codec.specs.Bytes.{le16, le32}
 use Rattle.codec.specs.Crc32c.{crc32c}
 use Rattle.slot.specs.Payload.{payload}
 use Rattle.slot.specs.Read.{header_facts, header_sum}
 use Rattle.slot.specs.Write.{encode, header_crc}
 use Rattle.slot.specs.declared.slot.Expect.{Expect}
+use Rattle.judge.specs.Judge.{most_pairs}
 use Rattle.judge.specs.Frames.{verdict_width}
 use Rattle.judge.specs.Part.{part_of, part_bytes}
 use Rattle.judge.specs.declared.pairs.Version.{Version}
@@ -93,7 +94,7 @@ OlderAtMost =
 -- The theorem does not need that there is none: its conclusion holds where that one alone happened.
 abbrev pub OlderSurvived : Type 0
 OlderSurvived =
-    (w : Write) → Sound (store w) → store_mark (store w) ≡ false → CorrectWrite w → Possible w.tear (size w)
+    (w : Write) → Sound (store w) → length (store w) ≤ most_pairs → store_mark (store w) ≡ false → CorrectWrite w → Possible w.tear (size w)
     → (Accident (left w) (old w) (new w) w.payload → ⊥)
     → (out : List ℕ) → length out ≡ length (store w) * verdict_width → Survives w out
 

@@ -126,7 +126,7 @@ long_correct reached =
 
 long_met : (reached : ℕ → Bool) → tear_tests 1024 (Sectors reached) new_slot older_slot new_record ≡ true → IsMet (long_write reached)
 long_met reached =
-    met_by (long_write reached) long_store_sound (unmarked_with long_page) (long_correct reached) older_slot new_slot older_slot_is new_slot_is
+    met_by (long_write reached) long_store_sound (lit≤ tt) (unmarked_with long_page) (long_correct reached) older_slot new_slot older_slot_is new_slot_is
 
 pub long_cuts : LongMet
 unfolding by_sector payload_of header_sum header_bytes page_bytes page_header_bytes entry_bytes le crc32c final_remainder remainder digest reversed

@@ -20,6 +20,7 @@ use Rattle.slot.specs.declared.slot.EncodeError.{EncodeError}
 use Rattle.slot.proofs.RoundTripLaws.{round_trip}
 use Rattle.pair.specs.Pair.{winner_info}
 use Rattle.judge.specs.Numbers.{slots, highest}
+use Rattle.judge.specs.Judge.{most_pairs}
 use Rattle.meta.specs.Block.{block_size, entries_per_page}
 use Rattle.meta.specs.Base.{base_at, check_base}
 use Rattle.meta.specs.Volume.{tail_at, check_tail, check_volume, decode_volume, volume_bytes as volume_record_bytes}
@@ -361,13 +362,13 @@ module _ (size : ℕ) (before after payload : List ℕ) where
       )
       go false is test = false_true refl test
 
-module _ (w : Write) (sound_store : Sound (store w)) (no_mark : store_mark (store w) ≡ false) (right : CorrectWrite w)
-    (before after : List ℕ) (old_is : old w ≡ before) (new_is : new w ≡ after) where
+module _ (w : Write) (sound_store : Sound (store w)) (few : length (store w) ≤ most_pairs) (no_mark : store_mark (store w) ≡ false)
+    (right : CorrectWrite w) (before after : List ℕ) (old_is : old w ≡ before) (new_is : new w ≡ after) where
   -- Of a correct write to a sound store with no mark the tests are all that is left.
   pub met_by : tear_tests (size w) w.tear after before w.payload ≡ true → IsMet w
   met_by tests =
       let no_accident = tested (size w) before after w.payload w.tear tests in
-      record { sound = sound_store; unmarked = no_mark; correct = right; possible = no_accident.0; none = rw (new_is, old_is) no_accident.1 }
+      record { sound = sound_store; few = few; unmarked = no_mark; correct = right; possible = no_accident.0; none = rw (new_is, old_is) no_accident.1 }
 
 -- ---- writes
 
@@ -453,7 +454,7 @@ pub new_page_is : (encode new_fields (page_record 0 0x304) (zeros_for new_fields
 new_page_is = summed_is new_fields (page_record 0 0x304) 0xd61e_00d0 0x9755_91c2 new_refusal new_sums.0 new_sums.1
 
 page_met : (k : ℕ) → tear_tests 512 (Ascending k) new_page old_page (page_record 0 0x304) ≡ true → IsMet (page_write k)
-page_met k = met_by (page_write k) sound (unmarked_with first_page) (page_correct k) old_page new_page old_page_is new_page_is
+page_met k = met_by (page_write k) sound (lit≤ tt) (unmarked_with first_page) (page_correct k) old_page new_page old_page_is new_page_is
 
 pub page_cuts : PageMet
 unfolding cut header_sum header_bytes page_header_bytes le crc32c final_remainder remainder digest reversed
@@ -512,7 +513,7 @@ pub marked_bytes_is : (encode marked_fields (volume_record true) (zeros_for mark
 marked_bytes_is = summed_is marked_fields (volume_record true) 0x880c_0bb0 0xa2bd_3d49 marked_refusal marked_sums.0 marked_sums.1
 
 volume_met : (k : ℕ) → tear_tests 512 (Ascending k) marked_bytes blank_bytes (volume_record true) ≡ true → IsMet (volume_write k)
-volume_met k = met_by (volume_write k) sound (unmarked_with first_page) (volume_correct k) blank_bytes marked_bytes refl marked_bytes_is
+volume_met k = met_by (volume_write k) sound (lit≤ tt) (unmarked_with first_page) (volume_correct k) blank_bytes marked_bytes refl marked_bytes_is
 
 pub volume_cuts : VolumeMet
 unfolding cut header_sum header_bytes volume_record_bytes le crc32c final_remainder remainder digest reversed
@@ -570,7 +571,7 @@ next_page_is = summed_is next_fields (page_record 1 1) 0x24b0_a7e6 0x09f7_d9dd n
 pub second_cut : SecondMet
 unfolding cut header_sum header_bytes page_header_bytes le crc32c final_remainder remainder digest reversed
 second_cut =
-    met_by (second_write 140) sound (unmarked_with first_page) (second_correct 140) blank_bytes next_page refl next_page_is refl
+    met_by (second_write 140) sound (lit≤ tt) (unmarked_with first_page) (second_correct 140) blank_bytes next_page refl next_page_is refl
 
 -- ---- a write over an older slot B
 
@@ -631,7 +632,7 @@ later_slot_is =
 
 later_met : (k : ℕ) → tear_tests 512 (Ascending k) later_slot newer_slot (page_record 0 0x21b9_61ac) ≡ true → IsMet (later_write k)
 later_met k =
-    met_by (later_write k) later_store_sound (unmarked_with later_page) (later_correct k) newer_slot later_slot newer_slot_is later_slot_is
+    met_by (later_write k) later_store_sound (lit≤ tt) (unmarked_with later_page) (later_correct k) newer_slot later_slot newer_slot_is later_slot_is
 
 pub later_cuts : LaterMet
 unfolding cut header_sum header_bytes page_header_bytes le crc32c final_remainder remainder digest reversed
@@ -640,4 +641,4 @@ later_cuts = Every.more (later_met 64 refl) (Every.more (later_met 133 refl) Eve
 -- ---- the hypotheses are the theorem's
 
 pub met_is_enough : MetIsEnough
-met_is_enough w met out room = cut_theorem w met.sound met.unmarked met.correct met.possible met.none out room
+met_is_enough w met out room = cut_theorem w met.sound met.few met.unmarked met.correct met.possible met.none out room

@@ -1,8 +1,9 @@
 -- The cut theorem is not empty (docs/FORMAT.md, "The sound store and the cut"): five writes to the stores of Stores.antt, cut at nineteen
 -- places and with four sets of sectors, meet every hypothesis of it.
-use Rattle.std.specs.Prelude.{◌≡◌, Bool, true, false, ◌==◌, List, [], ◌∷◌, ℕ, ◌*◌, length}
+use Rattle.std.specs.Prelude.{◌≡◌, Bool, true, false, ◌==◌, List, [], ◌∷◌, ℕ, ◌*◌, ◌≤◌, length}
 use Rattle.slot.specs.declared.slot.SlotIndex.{SlotIndex}
 use Rattle.slot.specs.declared.slot.SlotFields.{SlotFields}
+use Rattle.judge.specs.Judge.{most_pairs}
 use Rattle.judge.specs.Frames.{verdict_width}
 use Rattle.cut.specs.Store.{Every, Pair, store_mark, Sound}
 use Rattle.cut.specs.Cut.{Tear, Ascending, Sectors, Write, store, size, old, new, left, Possible, CorrectWrite, whole, AccidentBy, handed, Survives}
@@ -17,6 +18,7 @@ StoresSound = Sound first_store × Sound later_store × Sound long_store
 -- What the theorem asks of a write and its cut.
 pub record IsMet (w : Write) : Type 0 where
   pub sound : Sound (store w)
+  pub few : length (store w) ≤ most_pairs
   pub unmarked : store_mark (store w) ≡ false
   pub correct : CorrectWrite w
   pub possible : Possible w.tear (size w)

@@ -1,6 +1,5 @@
 -- The functions that plan a write give the writes of a history, and answer their numbers.
-use Rattle.std.proofs.Common.{◌≡◌, refl, sym, ap, ap₂, subst, ◌∙◌, true, false, List, [], ◌∷◌, ◌++◌, ℕ, zero, suc, ◌+◌, ◌*◌, ◌-◌, ◌^◌, ◌≤◌, arith, lt-ltb, length, drop, map, replicate, length-append, slice_get, Option, Some, None, Ok}
-use Rattle.std.specs.Simd.{first_chunks}
+use Rattle.std.proofs.Common.{◌≡◌, refl, sym, ap, ap₂, subst, ◌∙◌, true, false, List, ◌∷◌, ◌++◌, ℕ, ◌+◌, ◌*◌, ◌-◌, ◌^◌, ◌≤◌, arith, lt-ltb, length, replicate, length-append, slice_get, Option, Some, None, Ok}
 use Rattle.std.proofs.Math.ListN.{length-replicate}
 use Rattle.std.proofs.lemmas.Option.{some_pair_parts, same_Some}
 use Rattle.slot.specs.Status.{other}
@@ -8,17 +7,17 @@ use Rattle.slot.specs.declared.slot.SlotIndex.{SlotIndex}
 use Rattle.slot.specs.declared.slot.SlotInfo.{SlotInfo}
 use Rattle.pair.specs.Pair.{winner_info, next_write}
 use Rattle.judge.specs.Numbers.{slots, highest, highest_other}
-use Rattle.judge.specs.Judge.{judgement, unless}
-use Rattle.judge.specs.Frames.{frame_width, verdict_width, pair_count, frames as frames_in, row, frames_error, judge_frames, refusal}
+use Rattle.judge.specs.Judge.{most_pairs, judgement, unless}
+use Rattle.judge.specs.Frames.{verdict_width, pair_count, frames as frames_in, row, frames_error, judge_frames, refusal}
 use Rattle.judge.specs.Same.{frame_of}
 use Rattle.judge.specs.declared.pairs.Pair.{Pair as ShownPair}
 use Rattle.judge.specs.declared.verdict.JudgeError.{JudgeError}
 use Rattle.judge.specs.declared.verdict.Judgement.{Judgement}
-use Rattle.judge.proofs.SameLaws.{frames-are, row-is}
+use Rattle.judge.proofs.SameLaws.{row-is}
 use Rattle.cut.specs.Store.{Every, Pair, clean_mark, report, framed_pair, framed, shown, frames}
 use Rattle.cut.specs.Cut.{Tear, Write, store, next_number as next_number_of, CorrectWith, is_empty}
 use Rattle.cut.proofs.EveryLaws.{every_split}
-use Rattle.cut.proofs.FrameLaws.{PairTyped, row_fits, judged_row}
+use Rattle.cut.proofs.FrameLaws.{PairTyped, row_fits, count_frames, judged_row}
 use Rattle.cut.proofs.PairLaws.{other_other}
 use Rattle.cut.proofs.RowLaws.{rested_stands}
 use Rattle.plan.specs.Error.{unless_refused}
@@ -37,31 +36,20 @@ use Rattle.history.specs.History.{Tracked, pairs, named, heal_number as heal_num
 use Rattle.history.specs.Laws.{NumbersAnswered, NumbersMeet, NumbersOfHistory, plan_of, AllowedIsPlanned, FreePlanIsAllowed, HealPlanIsAllowed}
 use Rattle.history.proofs.RowLaws.{rested_highest, others_are}
 use Rattle.history.proofs.States.{Rests, rested, all_rested, pairs_row, length_pairs, State, flies_stand, flies_number, flown_named, all_named, none_named, one_named}
-use Rattle.history.proofs.Theorem.{reached_state}
+use Rattle.history.proofs.Theorem.{reached_state, reached_few}
 
 -- ---- nothing is refused
 
-length_chunks : {X : Type 0} (n k : ℕ) (xs : List X) → length (first_chunks n k xs) ≡ k
-length_chunks n zero xs = refl
-length_chunks n (suc k) xs = ap suc (length_chunks n k (drop n xs))
-
-length_framed : (ps : List Pair) → length (map frame_of (framed ps)) ≡ length ps
-length_framed [] = refl
-length_framed (p ∷ ps) = ap suc (length_framed ps)
-
-count_is : (ps : List Pair) → pair_count (frames ps) ≡ length ps
-count_is ps = sym (length_chunks frame_width (pair_count (frames ps)) (frames ps)) ∙ ap length (frames-are (framed ps)) ∙ length_framed ps
-
-module _ (ps : List Pair) (some : 1 ≤ length ps) (typed : Every PairTyped ps) where
+module _ (ps : List Pair) (typed : Every PairTyped ps) where
   abbrev out : List ℕ
   out = replicate (pair_count (frames ps) * verdict_width) 0
 
-  not_refused : refusal (frames ps) 0 ≡ None
+  not_refused : 1 ≤ length ps → length ps ≤ most_pairs → refusal (frames ps) 0 ≡ None
   unfolding judge_frames
-  not_refused =
+  not_refused some few =
       by_answer (refusal (frames ps) 0) (judgement (row (frames ps)) false) (judgement (shown ps) false)
       (subst (λ (n : ℕ). unless (frames_error (frames ps) 0 n) (judgement (row (frames ps)) false) ≡ Ok (judgement (shown ps) false)) size
-      (judged_row ps some false typed out (size ∙ ap (λ (n : ℕ). n * verdict_width) (count_is ps))))
+      (judged_row ps some few false typed out (size ∙ ap (λ (n : ℕ). n * verdict_width) (count_frames ps))))
     where
       size : length out ≡ pair_count (frames ps) * verdict_width
       size = length-replicate (pair_count (frames ps) * verdict_width) 0
@@ -75,9 +63,9 @@ module _ (ps : List Pair) (some : 1 ≤ length ps) (typed : Every PairTyped ps) 
 
 pub numbers_answered : NumbersAnswered
 unfolding next_number heal_number
-numbers_answered ps some numbered =
-    let none = not_refused ps some (all_typed numbered) in
-    let shows = row_shown ps some (all_typed numbered) in (
+numbers_answered ps some few numbered =
+    let none = not_refused ps (all_typed numbered) some few in
+    let shows = row_shown ps (all_typed numbered) in (
       ap₂ (λ (e : Option JudgeError) (row : List ShownPair). unless_refused e (after (highest (slots row)))) none shows,
       ap₂ (λ (e : Option JudgeError) (row : List ShownPair). unless_refused e (after (highest_winner row))) none shows,
     )
@@ -146,11 +134,13 @@ module _ (before : List Tracked) (t : Tracked) (behind : List Tracked) (state : 
   some : 1 ≤ length ps
   some = let all = length-append (pairs before) (t.pair ∷ pairs behind) in omega arith
 
-  none_refused : refusal (frames ps) 0 ≡ None
-  none_refused = not_refused ps some (all_typed numbered)
+  none_refused : length (before ++ t ∷ behind) ≤ most_pairs → refusal (frames ps) 0 ≡ None
+  none_refused few =
+      not_refused ps (all_typed numbered) some
+      (subst (λ (n : ℕ). n ≤ most_pairs) (sym (length_pairs (before ++ t ∷ behind)) ∙ ap length (pairs_row before t behind)) few)
 
   shows : row (frames ps) ≡ shown ps
-  shows = row_shown ps some (all_typed numbered)
+  shows = row_shown ps (all_typed numbered)
 
   at : slice_get (frames_in (frames ps)) (length (pairs before)) ≡ Some f
   at = frame_at (pairs before) t.pair (pairs behind)
@@ -179,7 +169,7 @@ healing_number {w} (Turn.free none) is =
     let never : ◌≡◌ {A = Option (ℕ × SlotIndex)} None (Some (length w.before, w.index)) = sym none ∙ is in absurd cc
 
 module _ (before : List Tracked) (t : Tracked) (behind : List Tracked) (q : Put) (state : State (before ++ t ∷ behind))
-    (allowed : Allowed (write_to before t behind q)) where
+    (few : length (before ++ t ∷ behind) ≤ most_pairs) (allowed : Allowed (write_to before t behind q)) where
   abbrev w : Write
   w = write_to before t behind q
 
@@ -210,7 +200,7 @@ module _ (before : List Tracked) (t : Tracked) (behind : List Tracked) (q : Put)
   unfolding plan_write
   planned_free none =
       ap₂ (λ (e : Option JudgeError) (at : Option (List ℕ)). unless_refused e (plan_for at (highest (slots (row (frames (store w)))))))
-      (none_refused before t behind state) (at before t behind state)
+      (none_refused before t behind state few) (at before t behind state)
       ∙ ap (λ (row : List ShownPair). plan_for (Some (f before t behind state)) (highest (slots row))) (shows before t behind state)
       ∙ ap (λ (next : Option SlotIndex). plan_next next (followed (frame_report (f before t behind state))) (highest (slots (shown (store w)))))
       (next_is before t behind state (other q.index) i allowed.correct.won ∙ ap Some (other_other q.index))
@@ -221,7 +211,7 @@ module _ (before : List Tracked) (t : Tracked) (behind : List Tracked) (q : Put)
   unfolding plan_heal
   planned_healing is =
       ap (λ (e : Option JudgeError). unless_refused e (heal_for (frames (store w)) (judgement (row (frames (store w))) false).heal))
-      (none_refused before t behind state)
+      (none_refused before t behind state few)
       ∙ ap (heal_for (frames (store w))) (ap (λ (row : List ShownPair). (judgement row false).heal) (shows before t behind state) ∙ is)
       ∙ ap₂
       (λ (at : Option (List ℕ)) (row : List ShownPair).
@@ -234,8 +224,8 @@ module _ (before : List Tracked) (t : Tracked) (behind : List Tracked) (q : Put)
 pub allowed_is_planned : AllowedIsPlanned
 allowed_is_planned before t behind q reached allowed =
     record {
-      free = planned_free before t behind q (reached_state reached) allowed;
-      healing = planned_healing before t behind q (reached_state reached) allowed;
+      free = planned_free before t behind q (reached_state reached) (reached_few reached) allowed;
+      healing = planned_healing before t behind q (reached_state reached) (reached_few reached) allowed;
     }
 
 -- ---- what is planned is a write of a history

@@ -11,7 +11,7 @@ use Rattle.slot.specs.declared.slot.SlotInfo.{SlotInfo}
 use Rattle.slot.specs.declared.slot.Expect.{Expect}
 use Rattle.judge.specs.Numbers.{slots}
 use Rattle.judge.specs.Verdict.{winner_beside}
-use Rattle.judge.specs.Judge.{judgement}
+use Rattle.judge.specs.Judge.{judgement, most_pairs}
 use Rattle.judge.specs.Frames.{verdict_width}
 use Rattle.judge.specs.declared.verdict.SlotVerdict.{SlotVerdict}
 use Rattle.judge.specs.declared.verdict.PairVerdict.{PairVerdict}
@@ -106,8 +106,8 @@ pub record View (ts : List Tracked) (ps : List Pair) (out : List ℕ) : Type 0 w
   pub judged : Confirmed ps false out verdict (judgement (shown ps) false)
   pub back : AllReadKnown ts verdict
 
-module _ {t : Tracked} {ts : List Tracked} (rests : Rests t) (rest : Every Rests ts) (out : List ℕ)
-    (room : length out ≡ length (t.pair ∷ pairs ts) * verdict_width) where
+module _ {t : Tracked} {ts : List Tracked} (rests : Rests t) (rest : Every Rests ts) (few : length (t.pair ∷ pairs ts) ≤ most_pairs)
+    (out : List ℕ) (room : length out ≡ length (t.pair ∷ pairs ts) * verdict_width) where
   rest_view : View (t ∷ ts) (t.pair ∷ pairs ts) out
   rest_view =
       record {
@@ -115,7 +115,7 @@ module _ {t : Tracked} {ts : List Tracked} (rests : Rests t) (rest : Every Rests
         judged =
             row_stands Every.none (all_rested rest) t.pair (quiet_explained (quiet_of (rested rests)).quiet)
             (rested_stands (rested rests) (rule_at (slots (shown (t.pair ∷ pairs ts))) 0)) false (λ flight. refl)
-            (leads_typed rests.led.leads) out room;
+            (leads_typed rests.led.leads) few out room;
         back = all_known (Every.more rests rest);
       }
 
@@ -139,13 +139,13 @@ module _ {before : List Tracked} {t : Tracked} {behind : List Tracked} (rest_bef
       flies_stand fly (rule_at (slots (shown row)) (length (pairs before))) refl
       (flight_qualifies (all_rested rest_before) (all_rested rest_behind) t.pair fly.x fly.i fly.led.leads (flies_number fly))
 
-  fly_view : (out : List ℕ) → length out ≡ length row * verdict_width → View (before ++ t ∷ behind) row out
-  fly_view out room =
+  fly_view : length row ≤ most_pairs → (out : List ℕ) → length out ≡ length row * verdict_width → View (before ++ t ∷ behind) row out
+  fly_view few out room =
       record {
         verdict = rested_verdicts (all_rested rest_before) ++ winner_beside fly.x SlotVerdict.InFlight ∷ rested_verdicts (all_rested rest_behind);
         judged =
             row_stands (all_rested rest_before) (all_rested rest_behind) t.pair Explained.torn flown_stands false (λ flight. refl)
-            (leads_typed fly.led.leads) out room;
+            (leads_typed fly.led.leads) few out room;
         back = row_known rest_before (known_back flown_stands fly.led.known) rest_behind;
       }
 
@@ -208,20 +208,24 @@ one_named before t behind index (one_flies before₁ t₁ behind₁ split rest_b
 
 -- ---- the promise
 
-view : (ts : List Tracked) → State ts → (out : List ℕ) → length out ≡ length (pairs ts) * verdict_width → View ts (pairs ts) out
-view [] (all_rest some Every.none) out room = absurd (omega arith)
-view (t ∷ ts) (all_rest some (Every.more rests rest)) out room = rest_view rests rest out room
-view ts (one_flies before t behind is rest_before fly rest_behind) out room =
-    subst (λ (us : List Tracked). length out ≡ length (pairs us) * verdict_width → View us (pairs us) out) (sym is)
-    (λ row_room.
+view : (ts : List Tracked) → State ts → length (pairs ts) ≤ most_pairs → (out : List ℕ) → length out ≡ length (pairs ts) * verdict_width
+    → View ts (pairs ts) out
+view [] (all_rest some Every.none) few out room = absurd (omega arith)
+view (t ∷ ts) (all_rest some (Every.more rests rest)) few out room = rest_view rests rest few out room
+view ts (one_flies before t behind is rest_before fly rest_behind) few out room =
+    subst (λ (us : List Tracked). length (pairs us) ≤ most_pairs → length out ≡ length (pairs us) * verdict_width → View us (pairs us) out) (sym is)
+    (λ row_few row_room.
     subst (λ (ps : List Pair). View (before ++ t ∷ behind) ps out) (sym (pairs_row before t behind))
-    (fly_view rest_before fly rest_behind out (row_room ∙ ap (λ (ps : List Pair). length ps * verdict_width) (pairs_row before t behind))))
-    room
+    (fly_view rest_before fly rest_behind (subst (λ (ps : List Pair). length ps ≤ most_pairs) (pairs_row before t behind) row_few) out
+    (row_room ∙ ap (λ (ps : List Pair). length ps * verdict_width) (pairs_row before t behind))))
+    few room
 
-pub promised : (ts : List Tracked) → State ts → (out : List ℕ) → length out ≡ length ts * verdict_width
+pub promised : (ts : List Tracked) → State ts → length ts ≤ most_pairs → (out : List ℕ) → length out ≡ length ts * verdict_width
     → ((vs : List PairVerdict) → AllReadKnown ts vs → VolumeUnmarked (pairs ts)) → Promised ts out
-promised ts state out room unmarked =
-    let seen = view ts state out (room ∙ ap (λ (n : ℕ). n * verdict_width) (sym (length_pairs ts))) in
+promised ts state few out room unmarked =
+    let seen =
+    view ts state (subst (λ (n : ℕ). n ≤ most_pairs) (sym (length_pairs ts)) few) out
+    (room ∙ ap (λ (n : ℕ). n * verdict_width) (sym (length_pairs ts))) in
     record {
       verdict = seen.verdict;
       judgement = judgement (shown (pairs ts)) false;

@@ -1,8 +1,10 @@
 -- The theorem over histories: each step leads from a state to the next, and the volume record's mark stays false.
-use Rattle.std.proofs.Common.{◌≡◌, refl, sym, ap, subst, ◌∙◌, true, false, List, [], ◌∷◌, ◌++◌, ℕ, zero, suc, ◌≤◌, arith, length, map}
+use Rattle.std.proofs.Common.{◌≡◌, refl, sym, ap, subst, ◌∙◌, true, false, List, [], ◌∷◌, ◌++◌, ℕ, zero, suc, ◌≤◌, arith, length, length-append, map}
 use Rattle.std.specs.List.{IsAmong}
+use Rattle.std.proofs.lemmas.List.{length-map}
 use Rattle.slot.specs.Write.{header_crc}
 use Rattle.slot.specs.declared.slot.SlotInfo.{SlotInfo}
+use Rattle.judge.specs.Judge.{most_pairs}
 use Rattle.judge.specs.declared.verdict.PairVerdict.{PairVerdict}
 use Rattle.cut.specs.Store.{Every, Pair, clean_mark, store_mark, Sound}
 use Rattle.cut.specs.Cut.{Write, new, left, is_empty}
@@ -24,6 +26,18 @@ reached_state (Reached.start sound few unmarked) = State.all_rest (sound_some so
 reached_state (Reached.finish before t behind reached q allowed) = finish_state before t behind q (reached_state reached) allowed
 reached_state (Reached.cut before t behind reached q allowed possible none) =
     cut_state before t behind q (reached_state reached) allowed possible none
+
+-- ---- and the number of their pairs stays
+
+same_length : (before : List Tracked) (t u : Tracked) (behind : List Tracked) → length (before ++ t ∷ behind) ≡ length (before ++ u ∷ behind)
+same_length before t u behind = length-append before (t ∷ behind) ∙ sym (length-append before (u ∷ behind))
+
+pub reached_few : {ts : List Tracked} → Reached HarmfulAccident ts → length ts ≤ most_pairs
+reached_few (Reached.start {ps} sound few unmarked) = subst (λ (n : ℕ). n ≤ most_pairs) (sym (length-map ps started)) few
+reached_few (Reached.finish before t behind reached q allowed) =
+    subst (λ (n : ℕ). n ≤ most_pairs) (same_length before t (finished (write_to before t behind q) t) behind) (reached_few reached)
+reached_few (Reached.cut before t behind reached q allowed possible none) =
+    subst (λ (n : ℕ). n ≤ most_pairs) (same_length before t (torn_by (write_to before t behind q) t) behind) (reached_few reached)
 
 -- ---- the volume record's mark stays false
 
@@ -107,7 +121,8 @@ only_the_written =
 -- ---- the theorem
 
 pub harmful_alone : HarmfulAlone
-harmful_alone ts reached out room = promised ts (reached_state reached) out room (λ vs back. mark_read back (reached_marks reached))
+harmful_alone ts reached out room =
+    promised ts (reached_state reached) (reached_few reached) out room (λ vs back. mark_read back (reached_marks reached))
 
 pub harmful_is_accident : HarmfulIsAccident
 harmful_is_accident w before winner (HarmfulAccident.header header not_valid) = HistoryAccident.header header

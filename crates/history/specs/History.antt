@@ -16,7 +16,7 @@ use Rattle.slot.specs.declared.slot.SlotInfo.{SlotInfo}
 use Rattle.slot.specs.declared.slot.SlotFields.{SlotFields}
 use Rattle.slot.specs.declared.slot.SlotStatus.{SlotStatus}
 use Rattle.judge.specs.Verdict.{by_index}
-use Rattle.judge.specs.Judge.{judgement}
+use Rattle.judge.specs.Judge.{most_pairs, judgement}
 use Rattle.judge.specs.Frames.{verdict_width}
 use Rattle.judge.specs.declared.verdict.PairVerdict.{PairVerdict}
 use Rattle.judge.specs.declared.verdict.Judgement.{Judgement}
@@ -157,8 +157,8 @@ torn_by w t = tracked w.index (left w) (past_after w (past w.index t)) (w.payloa
 
 -- The stores that a history leads to, in which none of these accidents happened.
 pub data Reached (Accident : Write → Past → SlotInfo → Type 0) : List Tracked → Type 0 where
-  -- A sound store of up to 112 pairs whose clean mark is false.
-  start : {ps : List Pair} → Sound ps → length ps ≤ 112 → store_mark ps ≡ false → Reached Accident (map started ps)
+  -- A sound store of as many pairs as are judged, whose clean mark is false.
+  start : {ps : List Pair} → Sound ps → length ps ≤ most_pairs → store_mark ps ≡ false → Reached Accident (map started ps)
   -- A write that is finished.
   finish : (before : List Tracked) (t : Tracked) (behind : List Tracked) → Reached Accident (before ++ t ∷ behind)
       → (q : Put) → Allowed (write_to before t behind q)

@@ -7,6 +7,7 @@ use Rattle.slot.specs.Write.{header_crc}
 use Rattle.slot.specs.declared.slot.SlotIndex.{SlotIndex}
 use Rattle.slot.specs.declared.slot.SlotInfo.{SlotInfo}
 use Rattle.judge.specs.Numbers.{slots, highest, highest_other}
+use Rattle.judge.specs.Judge.{most_pairs}
 use Rattle.judge.specs.Frames.{verdict_width}
 use Rattle.judge.specs.declared.verdict.PairVerdict.{PairVerdict}
 use Rattle.cut.specs.Store.{Every, Pair, clean_mark, shown, last_record, frames, Sound}
@@ -70,11 +71,11 @@ pub record OnlyTheWritten : Type 0 where
 
 -- ---- the numbers
 
--- Over the frames of any typed pairs, read in numbered format 2, `next_number` and `heal_number` answer the numbers of a history, as far
--- as they are below 2^64.
+-- Over the frames of as many typed pairs as are judged, read in numbered format 2, `next_number` and `heal_number` answer the numbers of a
+-- history, as far as they are below 2^64.
 abbrev pub NumbersAnswered : Type 0
 NumbersAnswered =
-    (ps : List Pair) → 1 ≤ length ps → Every NumberedPair ps
+    (ps : List Pair) → 1 ≤ length ps → length ps ≤ most_pairs → Every NumberedPair ps
     → (next_number (frames ps) ≡ after (highest (slots (shown ps)))) × (heal_number (frames ps) ≡ after (highest_winner (shown ps)))
 
 -- In a history the highest number is a winner's, and where a slot is named, the highest of all other slots is.

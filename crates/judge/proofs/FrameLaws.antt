@@ -1,13 +1,17 @@
 -- What the judge over frames answers is the judge's answer over their row, and its verdicts, four bytes each, are those bytes joined.
-use Rattle.std.proofs.Common.{◌≡◌, refl, ap, ◌∙◌, Bool, true, false, not, List, [], ◌∷◌, ◌++◌, ℕ, zero, suc, ◌+◌, ◌*◌, ◌/◌, ◌%◌, ◌<◌, ◌&&◌, length, get_or, set, take, drop, map, flat_map, slice_get, arith, eqb, leb, eqb-true, eq-eqb, Some, None}
+use Rattle.std.proofs.Common.{◌≡◌, refl, ap, ◌∙◌, Bool, true, false, not, List, [], ◌∷◌, ◌++◌, ℕ, zero, suc, ◌+◌, ◌-◌, ◌*◌, ◌/◌, ◌%◌, ◌<◌, ◌≤◌, ◌&&◌, length, get_or, set, take, drop, map, flat_map, slice_get, arith, eqb, leb, ltb, eqb-true, eq-eqb, Some, None}
+use Rattle.std.specs.Int.{from_bool}
 use Rattle.std.specs.List.{list_all}
 use Rattle.judge.specs.declared.verdict.PairVerdict.{PairVerdict}
-use Rattle.judge.specs.Judge.{error}
+use Rattle.judge.specs.Judge.{most_pairs, error}
 use Rattle.judge.specs.Frames.{frame_width, verdict_width, pair_count, pair_in_range, frames, verdict_bytes, verdict_from, verdict_cells, row_bytes, frames_error}
 
--- Both tests say the same. The library has none.
+-- Both tests say the same. The library has none of these.
 pub same_test : (m n j k : ℕ) → (m ≡ n → j ≡ k) → (j ≡ k → m ≡ n) → eqb m n ≡ eqb j k
 same_test m n j k there back = grind (arith, there, back)
+
+same_order : (m n j k : ℕ) → (m < n → j < k) → (j < k → m < n) → ltb m n ≡ ltb j k
+same_order m n j k there back = grind (arith, there, back)
 
 -- A part of a frame follows the whole ones.
 abbrev pub has_rest : List ℕ → Bool
@@ -16,26 +20,36 @@ has_rest s = not (eqb (length s % frame_width) 0)
 -- The error by the whole frames, and by whether a part of one follows.
 pub by_row : (s : List ℕ) (clean room : ℕ)
     → frames_error s clean room
-    ≡ error (not (has_rest s) && eqb (pair_count s) 0) (not (has_rest s)) (eqb room (pair_count s * verdict_width))
-    (leb clean 1 && list_all pair_in_range (frames s))
+    ≡ error (not (has_rest s) && eqb (pair_count s) 0) (ltb (most_pairs - from_bool (has_rest s)) (pair_count s)) (not (has_rest s))
+    (eqb room (pair_count s * verdict_width)) (leb clean 1 && list_all pair_in_range (frames s))
 unfolding frames_error
 by_row s clean room = go (eqb (length s % frame_width) 0) refl
   where
     go : (whole : Bool) → eqb (length s % frame_width) 0 ≡ whole
-        → error (eqb (length s) 0) whole (eqb room (pair_count s * verdict_width)) (leb clean 1 && list_all pair_in_range (frames s))
-        ≡ error (not (not whole) && eqb (pair_count s) 0) (not (not whole)) (eqb room (pair_count s * verdict_width))
+        → error (eqb (length s) 0) (ltb (most_pairs * frame_width) (length s)) whole (eqb room (pair_count s * verdict_width))
         (leb clean 1 && list_all pair_in_range (frames s))
+        ≡ error (not (not whole) && eqb (pair_count s) 0) (ltb (most_pairs - from_bool (not whole)) (pair_count s)) (not (not whole))
+        (eqb room (pair_count s * verdict_width)) (leb clean 1 && list_all pair_in_range (frames s))
     go true is =
         let whole = eqb-true (length s % frame_width) 0 is in
-        rw (same_test (length s) 0 (pair_count s) 0 (λ is. omega (arith, is)) (λ is. omega (arith, is)))
+        let over = same_order (most_pairs * frame_width) (length s) most_pairs (pair_count s) (λ is. omega (arith, is)) (λ is. omega (arith, is)) in
+        rw (same_test (length s) 0 (pair_count s) 0 (λ is. omega (arith, is)) (λ is. omega (arith, is)), over)
     go false is =
         let some : eqb (length s) 0 ≡ false = grind (arith, is) in
-        rw some
+        let part : length s % frame_width ≡ 0 → ⊥ = grind (arith, is) in
+        let over = same_order (most_pairs * frame_width) (length s) (most_pairs - 1) (pair_count s) (λ is. omega (arith, is)) (λ is. omega (arith, is, part)) in
+        rw (some, over)
 
 pub whole : (s : List ℕ) (clean room : ℕ) → length s % frame_width ≡ 0
     → frames_error s clean room
-    ≡ error (eqb (pair_count s) 0) true (eqb room (pair_count s * verdict_width)) (leb clean 1 && list_all pair_in_range (frames s))
+    ≡ error (eqb (pair_count s) 0) (ltb most_pairs (pair_count s)) true (eqb room (pair_count s * verdict_width))
+    (leb clean 1 && list_all pair_in_range (frames s))
 whole s clean room frames_are = by_row s clean room ∙ rw (eq-eqb (length s % frame_width) 0 frames_are)
+
+-- Without an error the pairs are as many as are judged.
+pub few : (s : List ℕ) (clean room : ℕ) → frames_error s clean room ≡ None → pair_count s ≤ most_pairs
+unfolding frames_error
+few s clean room none = grind (arith, none)
 
 -- Without an error the lent bytes are whole verdicts.
 pub room : (s : List ℕ) (clean len new : ℕ) → len ≡ new → frames_error s clean len ≡ None → new % verdict_width ≡ 0

@@ -1,6 +1,6 @@
 -- The frames filled from a row of pairs stand for that row, so that the judge over them judges it: there is an error only for an empty row,
 -- another room than the verdicts need, and a mark out of range.
-use Rattle.std.proofs.Common.{◌≡◌, refl, sym, ap, ap₂, ◌∙◌, Bool, true, ◌&&◌, List, [], ◌∷◌, ◌++◌, ℕ, ◌*◌, arith, eqb, leb, length, map, length-append, take_at, drop_at, append-nil, Option, Some, None}
+use Rattle.std.proofs.Common.{◌≡◌, refl, sym, ap, ap₂, ◌∙◌, Bool, true, ◌&&◌, List, [], ◌∷◌, ◌++◌, ℕ, ◌*◌, arith, eqb, leb, ltb, length, map, length-append, take_at, drop_at, append-nil, Option, Some, None}
 use Rattle.std.proofs.Math.Bool.{and-true}
 use Rattle.std.specs.List.{list_all}
 use Rattle.std.specs.Simd.{first_chunks}
@@ -11,7 +11,7 @@ use Rattle.judge.specs.declared.verdict.PairVerdict.{PairVerdict}
 use Rattle.judge.specs.declared.verdict.JudgeError.{JudgeError}
 use Rattle.judge.specs.declared.records.PairRead.{PairRead}
 use Rattle.judge.specs.Part.{part_bytes, part_at, part_shown, is_in_range}
-use Rattle.judge.specs.Judge.{verdicts, judgement, error, unless, left}
+use Rattle.judge.specs.Judge.{verdicts, judgement, most_pairs, error, unless, left}
 use Rattle.judge.specs.Records.{pair_read, records_error, judge_records, records_left}
 use Rattle.judge.specs.Frames.{frame_width, verdict_width, pair_from, pair_in_range, pair_count, frames, row, row_bytes, frames_error, judge_frames, frames_left}
 use Rattle.judge.specs.Same.{filled, Framed, part_read, frame_of, frames_of, pairs_of, Fits, AllFit, mark, SameJudge, IgnoredFields}
@@ -77,9 +77,9 @@ length-pairs (f ∷ fs) = simp (length-pairs fs)
 
 -- The error of so many pairs.
 abbrev pub framed_error : List PairRead → ℕ → ℕ → Option JudgeError
-framed_error ps clean room = error (eqb (length ps) 0) true (eqb room (length ps * verdict_width)) (leb clean 1)
+framed_error ps clean room = error (eqb (length ps) 0) (ltb most_pairs (length ps)) true (eqb room (length ps * verdict_width)) (leb clean 1)
 
-count-is : (fs : List Framed) → pair_count (frames_of fs) ≡ length fs
+pub count-is : (fs : List Framed) → pair_count (frames_of fs) ≡ length fs
 count-is fs = omega (arith, length-frames fs)
 
 pub frames-are : (fs : List Framed) → frames (frames_of fs) ≡ map frame_of fs
@@ -92,7 +92,7 @@ module _ (fs : List Framed) (fits : AllFit fs) where
   error-is : (clean room : ℕ) → frames_error (frames_of fs) clean room ≡ framed_error (pairs_of fs) clean room
   error-is clean room =
       whole (frames_of fs) clean room (omega (arith, length-frames fs))
-      ∙ ap₂ (λ (n : ℕ) (within : Bool). error (eqb n 0) true (eqb room (n * verdict_width)) within) (count-is fs ∙ sym (length-pairs fs))
+      ∙ ap₂ (λ (n : ℕ) (within : Bool). error (eqb n 0) (ltb most_pairs n) true (eqb room (n * verdict_width)) within) (count-is fs ∙ sym (length-pairs fs))
       (ap (λ x. leb clean 1 && x) (ap (list_all pair_in_range) (frames-are fs) ∙ all-in-range fs fits) ∙ and-true (leb clean 1))
 
   pub answer-is : (clean room : ℕ)

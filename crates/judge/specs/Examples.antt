@@ -37,8 +37,13 @@ pub record JudgeExamples : Type 0 where
   pub marked_verdicts : frames_left (volume_frame ++ page_frame) 1 (replicate 8 0) ≡ 0 ∷ 1 ∷ 0 ∷ 1 ∷ 1 ∷ 1 ∷ 0 ∷ 4 ∷ []
   -- Beside damage a page is Unconfirmed.
   pub damaged_verdicts : frames_left (volume_frame ++ damaged_frame) 0 (replicate 8 0) ≡ 0 ∷ 1 ∷ 0 ∷ 1 ∷ 1 ∷ 1 ∷ 0 ∷ 4 ∷ []
-  -- Errors in their order: no pair; part of a frame; no room for the verdicts; a mark, a code, a facts byte out of range. Then none.
+  -- Errors in their order: no pair; more bytes than 112 frames have; part of a frame; no room for the verdicts; a mark, a code, a facts
+  -- byte out of range. Then none.
   pub no_pair : refused_with [] 2 1 ≡ Some 8
+  pub one_byte_more : refused_with (replicate 5825 0xff) 2 1 ≡ Some 45
+  pub one_pair_more : refused_with (replicate 5876 0) 0 452 ≡ Some 45
+  pub one_byte_fewer : refused_with (replicate 5823 0xff) 2 1 ≡ Some 10
+  pub most_pairs : refused_with (replicate 5824 0) 0 448 ≡ None
   pub not_frames : refused_with (replicate 51 0xff) 2 1 ≡ Some 10
   pub room_first : refused_with (replicate 52 0xff) 2 1 ≡ Some 9
   pub mark : refused_with (replicate 52 0) 2 4 ≡ Some 10

@@ -1,6 +1,6 @@
 -- The judge over frames in bytes (docs/FORMAT.md, "Frames", "The store verdict" and "Refusals"). A pair's frame: the part of slot A, then
 -- that of slot B.
-use Rattle.std.specs.Prelude.{Bool, ◌&&◌, List, [], ◌∷◌, ℕ, ◌*◌, ◌/◌, ◌%◌, ◌==◌, nat_le, length, get_or, map, flat_map, Option, Result}
+use Rattle.std.specs.Prelude.{Bool, ◌&&◌, List, [], ◌∷◌, ℕ, ◌*◌, ◌/◌, ◌%◌, ◌==◌, nat_le, nat_lt, length, get_or, map, flat_map, Option, Result}
 use Rattle.std.specs.List.{list_all}
 use Rattle.std.specs.Simd.{first_chunks}
 use Rattle.slot.specs.declared.slot.SlotIndex.{SlotIndex}
@@ -14,7 +14,7 @@ use Rattle.slot.specs.Numbers.{choice_number}
 use Rattle.judge.specs.Values.{standing_number, slot_verdict_number, standing_from, choice_from, slot_verdict_from}
 use Rattle.judge.specs.Numbers.{slots}
 use Rattle.judge.specs.Maxima.{no_maxima, note_all}
-use Rattle.judge.specs.Judge.{verdicts, judgement, error, unless, left}
+use Rattle.judge.specs.Judge.{verdicts, judgement, most_pairs, error, unless, left}
 
 -- ---- a pair's frame
 
@@ -65,10 +65,11 @@ row_bytes vs = flat_map verdict_bytes vs
 
 -- ---- the judge
 
--- The error, where so many bytes are lent for the verdicts.
+-- The error, where so many bytes are lent for the verdicts. Pairs are too many by their bytes, whole or not.
 unfoldable pub frames_error : List ℕ → ℕ → ℕ → Option JudgeError
 frames_error s clean room =
-    error (length s == 0) (length s % frame_width == 0) (room == pair_count s * verdict_width) (nat_le clean 1 && list_all pair_in_range (frames s))
+    error (length s == 0) (nat_lt (most_pairs * frame_width) (length s)) (length s % frame_width == 0) (room == pair_count s * verdict_width)
+    (nat_le clean 1 && list_all pair_in_range (frames s))
 
 -- What it answers,
 unfoldable pub judge_frames : List ℕ → ℕ → ℕ → Result Judgement JudgeError

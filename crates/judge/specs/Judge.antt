@@ -134,10 +134,16 @@ judgement ps clean =
 
 -- ---- what is lent for it
 
--- What is answered with an error, in this order: no pair, bytes that are no whole pairs, another number of verdicts, a value out of range.
-abbrev pub error : Bool → Bool → Bool → Bool → Option JudgeError
-error empty whole fits within =
+-- The most pairs of a judgement.
+abbrev pub most_pairs : ℕ
+most_pairs = 112
+
+-- What is answered with an error, in this order: no pair, more than are judged, bytes that are no whole pairs, another number of verdicts, a
+-- value out of range.
+abbrev pub error : Bool → Bool → Bool → Bool → Bool → Option JudgeError
+error empty over whole fits within =
     if empty then Some JudgeError.Empty
+    else if over then Some JudgeError.TooManyPairs
     else if not whole then Some JudgeError.OutOfRange
     else if not fits then Some JudgeError.OutputLength
     else if not within then Some JudgeError.OutOfRange

@@ -1,5 +1,5 @@
 -- The judge over a row of pairs as they were read (docs/FORMAT.md, "The store verdict"; judge.rs).
-use Rattle.std.specs.Prelude.{Bool, true, List, ℕ, ◌==◌, length, map, Option, Some, None, Result}
+use Rattle.std.specs.Prelude.{Bool, true, List, ℕ, ◌==◌, nat_lt, length, map, Option, Some, None, Result}
 use Rattle.slot.specs.declared.slot.SlotStatus.{SlotStatus}
 use Rattle.slot.specs.declared.slot.HeaderFacts.{HeaderFacts}
 use Rattle.slot.specs.declared.slot.NumberedHeader.{NumberedHeader}
@@ -11,7 +11,7 @@ use Rattle.judge.specs.declared.verdict.JudgeError.{JudgeError}
 use Rattle.judge.specs.declared.records.SlotRead.{SlotRead}
 use Rattle.judge.specs.declared.records.PairRead.{PairRead}
 use Rattle.judge.specs.Part.{version_of_info, version_of_header}
-use Rattle.judge.specs.Judge.{verdicts, judgement, error, unless, left}
+use Rattle.judge.specs.Judge.{verdicts, judgement, most_pairs, error, unless, left}
 
 -- ---- what the judge is told of a slot, and of a pair
 
@@ -38,7 +38,7 @@ pair_read p = record { a = shown_read p.a; b = shown_read p.b }
 
 -- The error, where so many verdicts are lent.
 abbrev pub records_error : List PairRead → ℕ → Option JudgeError
-records_error ps room = error (length ps == 0) true (room == length ps) true
+records_error ps room = error (length ps == 0) (nat_lt most_pairs (length ps)) true (room == length ps) true
 
 -- What it answers,
 unfoldable pub judge_records : List PairRead → Bool → ℕ → Result Judgement JudgeError

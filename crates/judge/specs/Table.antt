@@ -41,7 +41,7 @@ pub record Table : Type 0 where
   pub verdicts :
       map slot_verdict_number (SlotVerdict.Winner ∷ SlotVerdict.Nothing ∷ SlotVerdict.OlderDamaged ∷ SlotVerdict.InFlight ∷ SlotVerdict.Damage ∷ [])
       ≡ 0 ∷ 1 ∷ 2 ∷ 3 ∷ 4 ∷ []
-  pub errors : map error_number (JudgeError.Empty ∷ JudgeError.OutputLength ∷ JudgeError.OutOfRange ∷ []) ≡ 8 ∷ 9 ∷ 10 ∷ []
+  pub errors : map error_number (JudgeError.Empty ∷ JudgeError.OutputLength ∷ JudgeError.OutOfRange ∷ JudgeError.TooManyPairs ∷ []) ≡ 8 ∷ 9 ∷ 10 ∷ 45 ∷ []
   pub shown :
       map shown_by (0 ∷ 1 ∷ 2 ∷ 3 ∷ 4 ∷ 5 ∷ 6 ∷ 7 ∷ 8 ∷ 9 ∷ 10 ∷ 11 ∷ 12 ∷ [])
       ≡ Shown.Other ∷ Shown.Other ∷ Shown.Blank ∷ Shown.Other ∷ Shown.BadHeader 0x1514_1312 ∷ Shown.Unsupported ∷ Shown.Unsupported ∷ Shown.Other

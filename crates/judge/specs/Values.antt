@@ -32,11 +32,12 @@ abbrev pub heal_pair : Option (ℕ × SlotIndex) → ℕ
 heal_pair None = 0
 heal_pair (Some heal) = heal.0
 
--- 8 no pair, 9 another number of verdicts, 10 no whole frames or a value out of range.
+-- 8 no pair, 9 another number of verdicts, 10 no whole frames or a value out of range, 45 more pairs than are judged.
 abbrev pub error_number : JudgeError → ℕ
 error_number JudgeError.Empty = 8
 error_number JudgeError.OutputLength = 9
 error_number JudgeError.OutOfRange = 10
+error_number JudgeError.TooManyPairs = 45
 
 -- ---- and back; any higher number is read as the last one
 

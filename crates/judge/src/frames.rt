@@ -50,6 +50,15 @@ pub fn parts(frame: &[u8; FRAME]) -> (SlotPart, SlotPart)
     (SlotPart::read(frame, 0), SlotPart::read(frame, PART))
 }
 
+// whether their values are in range,
+#[inline(always)]
+pub fn is_in_range(frame: &[u8; FRAME]) -> bool
+    ensures { result ≡ pair_in_range frame.now }
+{
+    let (a, b) = parts(frame);
+    a.is_in_range() && b.is_in_range()
+}
+
 // and what they show.
 #[inline(always)]
 pub fn shown(frame: &[u8; FRAME]) -> Pair
@@ -68,8 +77,7 @@ impl ReadPair for [u8; FRAME] {
     ghost within = { pair_in_range };
 
     fn is_in_range(&self) -> bool {
-        let (a, b) = parts(self);
-        a.is_in_range() && b.is_in_range()
+        is_in_range(self)
     }
 
     #[inline(always)]

@@ -1,18 +1,19 @@
 // The judge of a row of pairs, whatever they and the lent verdicts are kept in. The row is gone through three times: for the ranges and
 // the highest numbers, for each pair's own verdict, and for the rules of the whole store. Pair 0 is the volume record.
-ghost use Rattle.std.specs.Prelude.{◌≡◌, ◌<◌, ◌≤◌, ◌==◌, not, ◌&&◌, nat_le, ℕ, Bool, List, if◌then◌else◌, length, map, true, Some, None, slice_get, slice_set, OnOk, OnErr};
+ghost use Rattle.std.specs.Prelude.{◌≡◌, ◌<◌, ◌≤◌, ◌==◌, not, ◌&&◌, ◌-◌, nat_le, nat_lt, ℕ, Bool, List, if◌then◌else◌, length, map, true, Some, None, slice_get, slice_set, OnOk, OnErr};
 ghost use Rattle.std.specs.List.{list_all};
 ghost use Rattle.std.specs.Borrow.{GName};
+ghost use Rattle.std.specs.Int.{from_bool};
 ghost use Rattle.judge.specs.declared.pairs.Pair.{Pair};
 ghost use Rattle.judge.specs.declared.verdict.PairVerdict.{PairVerdict};
 ghost use Rattle.judge.specs.Maxima.{no_maxima, note_all};
 ghost use Rattle.judge.specs.Numbers.{slots};
 ghost use Rattle.judge.specs.Passes.{verdicts_by, no_tally, tallies, heals};
-ghost use Rattle.judge.specs.Judge.{volume_verdict, last_verdicts, judgement, verdicts, error, unless};
+ghost use Rattle.judge.specs.Judge.{volume_verdict, last_verdicts, judgement, verdicts, most_pairs, error, unless};
 
 use crate::numbers::Maxima;
 use crate::pairs::Pair;
-use crate::verdict::{JudgeError, Judgement, PairVerdict, Standing, StoreRules, Tally};
+use crate::verdict::{JudgeError, Judgement, MOST_PAIRS, PairVerdict, Standing, StoreRules, Tally};
 use slot::slot::SlotIndex;
 
 // Both slots of one pair, in the form that a caller has.
@@ -123,8 +124,8 @@ fn second_pass<V: Verdicts>(
     heal
 }
 
-// The refusals in their order, and the highest numbers where there is none. `rest`: a part of a pair follows; `room`: there is room for
-// the verdicts.
+// The refusals in their order, and the highest numbers where there is none. `rest`: a part of a pair follows, which the limit counts as
+// a pair; `room`: there is room for the verdicts.
 #[inline(always)]
 pub(crate) fn admit<P: ReadPair>(
     pairs: &[P],
@@ -132,10 +133,13 @@ pub(crate) fn admit<P: ReadPair>(
     clean: u8,
     room: bool,
 ) -> Result<Maxima, JudgeError>
-    ensures { result ≡ unless (error (not rest && length pairs.now == 0) (not rest) room (nat_le clean 1 && list_all P.within pairs.now)) (note_all no_maxima (slots (map P.shown pairs.now))) }
+    ensures { result ≡ unless (error (not rest && length pairs.now == 0) (nat_lt (most_pairs - from_bool rest) (length pairs.now)) (not rest) room (nat_le clean 1 && list_all P.within pairs.now)) (note_all no_maxima (slots (map P.shown pairs.now))) }
 {
     if !rest && pairs.is_empty() {
         return Err(JudgeError::Empty);
+    }
+    if pairs.len() > MOST_PAIRS - usize::from(rest) {
+        return Err(JudgeError::TooManyPairs);
     }
     if rest {
         return Err(JudgeError::OutOfRange);
@@ -160,7 +164,7 @@ pub(crate) fn judge<P: ReadPair, V: Verdicts>(
     clean: u8,
     out: &mut V,
 ) -> Result<Judgement, JudgeError>
-    ensures value { result ≡ unless (error (not rest && length pairs.now == 0) (not rest) (V.fitting out.old (length pairs.now)) (nat_le clean 1 && list_all P.within pairs.now)) (judgement (map P.shown pairs.now) (clean == 1)) }
+    ensures value { result ≡ unless (error (not rest && length pairs.now == 0) (nat_lt (most_pairs - from_bool rest) (length pairs.now)) (not rest) (V.fitting out.old (length pairs.now)) (nat_le clean 1 && list_all P.within pairs.now)) (judgement (map P.shown pairs.now) (clean == 1)) }
     ensures cells { OnOk result (V.cells out.new ≡ map V.cell (verdicts (map P.shown pairs.now) (clean == 1))) }
     ensures kept { OnErr result (out.new ≡ out.old) }
     ensures place { V.place out.new ≡ V.place out.old }

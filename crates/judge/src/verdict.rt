@@ -88,6 +88,9 @@ pub struct Judgement {
     pub refused: bool,
 }
 
+/// The most pairs of a judgement.
+pub const MOST_PAIRS: usize = 112;
+
 // Why there is no judgement.
 #[derive(Clone, Copy)]
 pub enum JudgeError {
@@ -97,6 +100,8 @@ pub enum JudgeError {
     OutputLength = 9,
     // No whole frames, or a value out of range.
     OutOfRange = 10,
+    // More pairs than are judged.
+    TooManyPairs = 45,
 }
 
 // ---- numbers. The way back is a match, since a cast goes from a case to its number alone.

@@ -14,13 +14,14 @@ use Rattle.slot.proofs.RoundTripLaws.{accepted}
 use Rattle.pair.specs.Pair.{winner_info, next_write}
 use Rattle.judge.specs.Numbers.{slots, highest}
 use Rattle.judge.specs.Verdict.{by_index}
+use Rattle.judge.specs.Judge.{most_pairs}
 use Rattle.judge.specs.Frames.{row}
 use Rattle.judge.specs.Same.{AllFit, frame_of}
 use Rattle.judge.proofs.SameLaws.{row-is}
 use Rattle.judge.specs.declared.pairs.Pair.{Pair as ShownPair}
 use Rattle.cut.specs.Store.{Every, Pair, slot_at, report, framed_pair, framed, shown, frames, SoundPair}
 use Rattle.cut.specs.Cut.{Tear, Ascending, Sectors, old, new, left, CorrectWith, AccidentBy}
-use Rattle.cut.proofs.FrameLaws.{PairTyped, row_fits}
+use Rattle.cut.proofs.FrameLaws.{PairTyped, row_fits, count_frames}
 use Rattle.cut.proofs.EveryLaws.{every_split}
 use Rattle.cut.proofs.PairLaws.{other_other}
 use Rattle.cut.proofs.StateLaws.{sound_won}
@@ -31,7 +32,7 @@ use Rattle.plan.specs.Pairs.{frame_report}
 use Rattle.plan.specs.Plan.{followed, plan_write}
 use Rattle.plan.specs.Next.{fields_of, encoded, write_by, next_write as next_by}
 use Rattle.plan.specs.Promise.{NumberedPair, write_of, IsGiven, PlannedIsCorrect, Answer, SurvivesCuts, BothKindsSurvived}
-use Rattle.plan.proofs.PlanLaws.{Has, plan_has, planned_frame, next_of_winner}
+use Rattle.plan.proofs.PlanLaws.{Has, plan_has, planned_frame, planned_few, next_of_winner}
 use Rattle.plan.proofs.ReportLaws.{held_report, winner_held, followed_held}
 use Rattle.plan.proofs.FrameLaws.{frame_reports, frame_at, fits_at}
 
@@ -166,6 +167,8 @@ survives_cuts given i a b owner compat payload buffer written answer owner_fits 
     let fits : 128 + length payload ≤ 2 ^ (slot_at plan.index p).expect.log2_slot_size = omega (arith, large.0, taken.payload-fits, taken.size) in
     let here : plan_write (frames (before ++ p ∷ behind)) (length before) ≡ Ok (Some plan) =
     ap₂ plan_write (sym asked.frames_are) (sym asked.place) ∙ known.is in
+    let few : length (before ++ p ∷ behind) ≤ most_pairs =
+    subst (λ (n : ℕ). n ≤ most_pairs) (count_frames (before ++ p ∷ behind)) (planned_few _ _ plan here) in
     let all = sound_pairs asked.sound in
     let pair_sound : SoundPair p = (every_split before p behind all).1 in
     let correct =
@@ -176,7 +179,7 @@ survives_cuts given i a b owner compat payload buffer written answer owner_fits 
     let same : new w ≡ written =
     ap (λ (e : Expect). (encode (fields_of plan e owner compat) payload buffer).0) same_expect ∙ sym known.bytes in (
       same,
-      cut_theorem w asked.sound asked.unmarked correct possible
+      cut_theorem w asked.sound few asked.unmarked correct possible
           (λ accident. no_accident (subst (λ (bytes : List ℕ). AccidentBy tear (left w) (old w) bytes payload) same accident))
           verdicts verdicts_room,
     )

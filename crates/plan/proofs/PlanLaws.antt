@@ -1,5 +1,5 @@
 -- What a plan has: the slot that `next_write` names, and one above the record before and above the highest number.
-use Rattle.std.proofs.Common.{◌≡◌, refl, sym, ap, subst, ◌∙◌, Bool, true, false, cond, List, ℕ, ◌+◌, ◌-◌, ◌^◌, ◌<◌, arith, ltb, ltb-true, slice_get, Option, Some, None, Ok, Err}
+use Rattle.std.proofs.Common.{◌≡◌, refl, sym, ap, subst, ◌∙◌, Bool, true, false, cond, List, ℕ, ◌+◌, ◌-◌, ◌*◌, ◌^◌, ◌<◌, ◌≤◌, arith, ltb, ltb-true, slice_get, Option, Some, None, Ok, Err}
 use Rattle.std.proofs.lemmas.Option.{some_pair_parts}
 use Rattle.slot.specs.Status.{other, info}
 use Rattle.slot.specs.declared.slot.SlotIndex.{SlotIndex}
@@ -8,7 +8,9 @@ use Rattle.pair.specs.Pair.{status, named, info_by, winner_info, next_by, next_w
 use Rattle.pair.specs.declared.pair.PairReport.{PairReport}
 use Rattle.pair.specs.declared.pair.Winner.{Winner}
 use Rattle.judge.specs.Numbers.{slots, highest}
-use Rattle.judge.specs.Frames.{frames, row, refusal}
+use Rattle.judge.specs.Judge.{most_pairs}
+use Rattle.judge.specs.Frames.{verdict_width, pair_count, frames, row, refusal}
+use Rattle.judge.proofs.FrameLaws.{few}
 use Rattle.judge.specs.declared.verdict.JudgeError.{JudgeError}
 use Rattle.plan.specs.declared.error.PlanError.{PlanError}
 use Rattle.plan.specs.declared.write.Plan.{Plan}
@@ -24,6 +26,15 @@ planned_frame s f i plan is at = go (refusal s 0) is
     go : (e : Option JudgeError) → unless_refused e (plan_for (slice_get (frames s) i) (highest (slots (row s)))) ≡ Ok (Some plan)
         → plan_next (next_write (frame_report f)) (followed (frame_report f)) (highest (slots (row s))) ≡ Ok (Some plan)
     go None is = rw at at is
+    go (Some e) is = absurd cc
+
+-- Where something is planned, the frames are of no more pairs than are judged.
+pub planned_few : (s : List ℕ) (i : ℕ) (plan : Plan) → plan_write s i ≡ Ok (Some plan) → pair_count s ≤ most_pairs
+unfolding plan_write
+planned_few s i plan is = few s 0 (pair_count s * verdict_width) (go (refusal s 0) is)
+  where
+    go : (e : Option JudgeError) → unless_refused e (plan_for (slice_get (frames s) i) (highest (slots (row s)))) ≡ Ok (Some plan) → e ≡ None
+    go None is = refl
     go (Some e) is = absurd cc
 
 -- ---- what a plan has

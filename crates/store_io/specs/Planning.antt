@@ -47,8 +47,10 @@ PlanPlaces =
     × (heal_values (Some (6, some_plan SlotIndex.B)) ≡ 6 ∷ 2 ∷ 3 ∷ 4 ∷ 5 ∷ [])
     × (heal_values None ≡ 0 ∷ 0 ∷ 0 ∷ 0 ∷ 0 ∷ [])
     × (numbered_slot 1 2 3 4 1 6 ≡ expect_of 1 2 3 4 1 6 2 1)
-    × (map error_number (PlanError.Frames JudgeError.Empty ∷ PlanError.Frames JudgeError.OutOfRange ∷ PlanError.NoPair ∷ PlanError.UsedUp ∷ [])
-    ≡ 8 ∷ 10 ∷ 8 ∷ 48 ∷ [])
+    × (map error_number
+    (PlanError.Frames JudgeError.Empty ∷ PlanError.Frames JudgeError.TooManyPairs ∷ PlanError.Frames JudgeError.OutOfRange ∷ PlanError.NoPair
+    ∷ PlanError.UsedUp ∷ [])
+    ≡ 8 ∷ 45 ∷ 10 ∷ 8 ∷ 48 ∷ [])
     × (map error_number
     (PlanError.Encode EncodeError.SlotSize ∷ PlanError.Encode EncodeError.BufferLength ∷ PlanError.Encode EncodeError.PayloadTooLarge ∷ [])
     ≡ 1 ∷ 2 ∷ 3 ∷ [])
