@@ -1,12 +1,14 @@
 -- A text as it is judged: refused by its length or by its lines, or by the judge of its frames.
-use Rattle.std.proofs.Common.{◌≡◌, refl, sym, ap, ap₂, ◌∙◌, Bool, true, false, ◌==◌, ℕ, ◌*◌, ◌≤◌, arith, ltb-false, List, length, take, length-take-le, Option, Some, None, Ok, Err}
+use Rattle.std.proofs.Common.{◌≡◌, refl, sym, ap, ap₂, ◌∙◌, Bool, true, false, ◌==◌, ℕ, ◌*◌, ◌≤◌, ◌<◌, arith, lt-ltb, ne_eqb, List, length, take, length-take-le, Option, Some, None, Ok, Err}
+use Rattle.std.proofs.lemmas.List.{take_all}
 use Rattle.std.specs.Int.{from_bool}
 use Rattle.judge.specs.declared.verdict.Judgement.{Judgement}
 use Rattle.judge.specs.declared.verdict.JudgeError.{JudgeError}
-use Rattle.judge.specs.Judge.{verdicts, judgement, unless, left}
+use Rattle.judge.specs.Judge.{most_pairs, verdicts, judgement, unless, left}
 use Rattle.judge.specs.Frames.{frame_width, verdict_width, pair_count, row, row_bytes, frames_error, judge_frames, frames_left}
 use Rattle.verdict_text.specs.declared.answer.Refusal.{Refusal}
 use Rattle.verdict_text.specs.Read.{store_in}
+use Rattle.verdict_text.specs.Steps.{Holds}
 use Rattle.verdict_text.specs.Answer.{unless_refused, judged_frames, judged_store, is_long, judged}
 
 module _ (text : List ℕ) (more : Bool) where
@@ -18,15 +20,25 @@ module _ (text : List ℕ) (more : Bool) where
   unfolding judged
   fitting_text fits = rw fits
 
-pub fitting : (held : ℕ) (more : Bool) → is_long held more ≡ false → held ≤ 65536
-fitting held true is = let never : ◌≡◌ {A = ℕ} 0 1 = cc in absurd (omega arith)
-fitting held false is = ltb-false 65536 held is
+-- ---- the frames that are held
 
--- The verdicts' room, with frames for so many pairs.
-pub room_for : (pairs : ℕ) (frames verdicts : List ℕ) → pairs * frame_width ≤ length frames → pairs * verdict_width ≤ length verdicts
-    → length (take (pairs * verdict_width) verdicts) ≡ pair_count (take (pairs * frame_width) frames) * verdict_width
-room_for pairs frames verdicts fits room =
-    omega (arith, length-take-le (pairs * frame_width) frames fits, length-take-le (pairs * verdict_width) verdicts room)
+module _ (buffer : List ℕ) (pairs : ℕ) (frames : List ℕ) (holds : Holds buffer pairs frames) where
+  -- All of them, where there is room for so many,
+  pub all_held : pairs * frame_width ≤ length buffer → take (pairs * frame_width) buffer ≡ frames
+  all_held fits = holds.held ∙ take_all (length buffer) frames (omega (arith, holds.size))
+
+  -- with room for their verdicts.
+  pub room_for : (verdicts : List ℕ) → pairs * verdict_width ≤ length verdicts
+      → length (take (pairs * verdict_width) verdicts) ≡ pair_count frames * verdict_width
+  room_for verdicts room = omega (arith, holds.size, length-take-le (pairs * verdict_width) verdicts room)
+
+  -- The judge refuses more than it judges.
+  pub too_many : (clean : Bool) → most_pairs < pairs → judged_frames clean frames ≡ Err (Refusal.Judge JudgeError.TooManyPairs)
+  unfolding frames_error
+  too_many clean many =
+      let some : length frames ≡ 0 → ⊥ = omega (arith, holds.size) in
+      let over : most_pairs * frame_width < length frames = omega (arith, holds.size) in
+      simp (ne_eqb (length frames) 0 some, lt-ltb (most_pairs * frame_width) (length frames) over)
 
 mark-back : (clean : Bool) → (from_bool clean == 1) ≡ clean
 mark-back true = refl

@@ -1,17 +1,8 @@
--- A text is cut at the place of its first newline, and its lines are the one cut off and those after it; a frame's line has its width.
-use Rattle.std.proofs.Common.{◌≡◌, refl, sym, ap, ◌∙◌, Bool, true, false, ℕ, ◌+◌, ◌-◌, ◌*◌, ◌<◌, suc, List, [], ◌∷◌, ◌++◌, length, take, drop, append_assoc, arith, add-one, cond, nat_eq, nat_lt, ltb-true, ltb-false, lt-ltb, le-ltb, ◌≤◌, Option, Some, None, if◌then◌else◌}
-use Rattle.std.proofs.lemmas.Slice.{take-put_mid}
-use borrow.Rule.Slice.PartMut.{put_mid}
-use Rattle.std.specs.List.{list_all, position}
+-- A text is cut at the place of its first newline, and its lines are the one cut off and those after it.
+use Rattle.std.proofs.Common.{◌≡◌, refl, sym, ap, ◌∙◌, Bool, true, false, ℕ, ◌+◌, ◌<◌, suc, List, [], ◌∷◌, ◌++◌, length, take, drop, append_assoc, arith, add-one, cond, nat_eq, nat_lt, ltb-true, ltb-false, lt-ltb, le-ltb, ◌≤◌, Option, Some, None}
+use Rattle.std.specs.List.{position}
 use Rattle.std.specs.Option.{option_map, option_and_then}
-use Rattle.std.specs.Result.{result_ok}
-use Rattle.std.specs.declared.result.Result.{Result}
-use Rattle.std.specs.declared.result.Result.TheVariants.{Ok, Err}
-use Rattle.hex.specs.Hex.{decode_sized}
-use Rattle.hex.specs.declared.error.FromHexError.{FromHexError}
-use Rattle.hex.proofs.HexLemmas.{decode_sized-ok}
-use Rattle.judge.specs.Frames.{frame_width}
-use Rattle.verdict_text.specs.Read.{newline, is_digit, before, cut, frame_of, joined, mark_of, frames_of, with_char, lines, frames_in, store_of, store_in}
+use Rattle.verdict_text.specs.Read.{newline, before, cut, frame_of, joined, mark_of, frames_of, with_char, lines, frames_in, store_of, store_in}
 
 -- ---- a line
 
@@ -84,15 +75,6 @@ frames_cut s some = ap (option_and_then frames_of) (lines_cut s some) ∙ go (cu
     go None = refl
     go (Some (line, rest)) = behind line (lines rest)
 
--- A frame's line has two digits a byte.
-pub frame-width : (line frame : List ℕ) → frame_of line ≡ Some frame → length line ≡ 2 * frame_width
-frame-width line frame is = go (list_all is_digit line) (decode_sized line frame_width) refl is
-  where
-    go : (digits : Bool) (r : Result (List ℕ) FromHexError) → decode_sized line frame_width ≡ r → (if digits then result_ok r else None) ≡ Some frame → length line ≡ 2 * frame_width
-    go true (Ok bytes) decodes is = decode_sized-ok line frame_width bytes decodes
-    go true (Err e) decodes is = let never : ◌≡◌ {A = ℕ} 0 1 = cc in absurd (omega arith)
-    go false r decodes is = let never : ◌≡◌ {A = ℕ} 0 1 = cc in absurd (omega arith)
-
 -- ---- the lines that are left
 
 joined-joined : (front frame : List ℕ) (o : Option (List ℕ)) → joined (Some (front ++ frame)) o ≡ joined (Some front) (joined (Some frame) o)
@@ -115,12 +97,6 @@ module _ (front text all : List ℕ) (so_far : joined (Some front) (frames_in te
         joined-joined front frame (frames_in others)
         ∙ ap (λ (f : Option (List ℕ)). joined (Some front) (joined f (frames_in others))) (sym is)
         ∙ here _ first
-
--- A frame that is written after n of them.
-pub frame_written : (l frame : List ℕ) (n : ℕ) → length frame ≡ frame_width → (n + 1) * frame_width ≤ length l
-    → take ((n + 1) * frame_width) (put_mid (n * frame_width) ((n + 1) * frame_width - n * frame_width) l frame) ≡ take (n * frame_width) l ++ frame
-frame_written l frame n size fits =
-    take-put_mid (n * frame_width) _ l frame ((n + 1) * frame_width) (omega (arith, size)) (omega arith)
 
 -- ---- the mark and the frames
 

@@ -1,7 +1,7 @@
 -- What program `verdicts` answers to a text (docs/FORMAT.md, "The program verdicts"), what it leaves of the text that a reader has, and
 -- what it adds to the bytes that a writer holds. Readers and writers in memory say what they have and hold; of others these facts claim
 -- nothing.
-use Rattle.std.specs.Prelude.{◌≡◌, Bool, false, if◌then◌else◌, ◌||◌, nat_lt, List, ℕ, ◌*◌, ◌/◌, ◌<◌, length, take, drop, Option, Some, None, Result, Ok, Err, IfSome}
+use Rattle.std.specs.Prelude.{◌≡◌, Bool, false, if◌then◌else◌, ◌||◌, nat_lt, List, ℕ, ◌*◌, ◌<◌, length, take, drop, Option, Some, None, Result, Ok, Err, IfSome}
 use Rattle.std.specs.Int.{from_bool}
 use Rattle.std.specs.Io.KnownBytes.{Keeps, Appends}
 use Rattle.std.specs.declared.io.Error.{Error}
@@ -12,7 +12,7 @@ use Rattle.judge.specs.Frames.{verdict_width, pair_count, row, row_bytes, frames
 use Rattle.judge.specs.Values.{error_number}
 use Rattle.verdict_text.specs.declared.answer.Refusal.{Refusal}
 use Rattle.verdict_text.specs.declared.answer.AnswerError.{AnswerError}
-use Rattle.verdict_text.specs.Read.{line_width, store_in}
+use Rattle.verdict_text.specs.Read.{store_in}
 use Rattle.verdict_text.specs.Write.{refusal_line, judgement_text}
 
 -- ---- the answer to a text
@@ -40,10 +40,6 @@ judged_store (Some store) = judged_frames store.0 store.1
 -- Whether a text has more than 65,536 bytes: more are held of it, or others follow those that are held.
 abbrev pub is_long : ℕ → Bool → Bool
 is_long held more = more || nat_lt 65536 held
-
--- The most pairs of a text that is judged.
-abbrev pub most_pairs : ℕ
-most_pairs = 65536 / line_width
 
 unfoldable pub judged : List ℕ → Bool → Result (List ℕ × Judgement) Refusal
 judged text more = if is_long (length text) more then Err Refusal.LongText else judged_store (store_in text)

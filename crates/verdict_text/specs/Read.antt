@@ -1,11 +1,11 @@
 -- The lines that program `verdicts` reads (docs/FORMAT.md, "The program verdicts"): lines of lower-case hexadecimal, each ended by a
 -- newline, the clean mark, 00 or 01, then one frame a line.
-use Rattle.std.specs.Prelude.{Bool, true, false, not, if◌then◌else◌, ◌==◌, ◌&&◌, ◌||◌, nat_le, List, [], ◌∷◌, ◌++◌, ℕ, ◌+◌, ◌*◌, Option, Some, None}
+use Rattle.std.specs.Prelude.{Bool, true, false, not, if◌then◌else◌, ◌==◌, ◌&&◌, ◌||◌, nat_le, List, [], ◌∷◌, ◌++◌, ℕ, Option, Some, None}
 use Rattle.std.specs.List.{list_all}
 use Rattle.std.specs.Option.{option_map, option_and_then}
 use Rattle.std.specs.Result.{result_ok}
 use Rattle.hex.specs.Hex.{decode_sized}
-use Rattle.judge.specs.Frames.{frame_width}
+use Rattle.judge.specs.Frames.{frame_width, pair_in_range}
 
 abbrev pub newline : ℕ
 newline = 0x0a
@@ -29,13 +29,14 @@ abbrev pub mark_of : List ℕ → Option Bool
 mark_of (a ∷ b ∷ []) = if not (a == 0x30) then None else if b == 0x30 then Some false else if b == 0x31 then Some true else None
 mark_of _ = None
 
--- The width of a frame's line, with its newline.
-abbrev pub line_width : ℕ
-line_width = 2 * frame_width + 1
+-- A frame whose codes and facts are in range.
+abbrev pub ranged : Option (List ℕ) → Option (List ℕ)
+ranged None = None
+ranged (Some frame) = if pair_in_range frame then Some frame else None
 
--- The frame of a line: two digits a byte.
+-- The frame of a line: two digits a byte, codes and facts in range.
 abbrev pub frame_of : List ℕ → Option (List ℕ)
-frame_of line = if list_all is_digit line then result_ok (decode_sized line frame_width) else None
+frame_of line = if list_all is_digit line then ranged (result_ok (decode_sized line frame_width)) else None
 
 abbrev pub joined : Option (List ℕ) → Option (List ℕ) → Option (List ℕ)
 joined None others = None

@@ -3,33 +3,30 @@ ghost use Rattle.std.specs.Prelude.{◌≡◌, ◌≢◌, ◌+◌, ◌*◌, ◌�
 ghost use Rattle.std.specs.Io.{ReadsAtMost, WritesAtMost};
 ghost use Rattle.std.specs.Io.KnownBytes.{Appends, ReadConsumes, WriteAppends};
 ghost use Rattle.std.specs.IoError.{error_kind};
+ghost use Rattle.judge.specs.Judge.{most_pairs};
 ghost use Rattle.judge.specs.Frames.{verdict_width};
-ghost use Rattle.verdict_text.specs.Read.{line_width};
 ghost use Rattle.verdict_text.specs.Write.{verdict_line, last_line};
-ghost use Rattle.verdict_text.specs.Answer.{refusal_number, is_long, most_pairs, judged, response_text, Left, Written, LosesFewer, AppendsFront, cause};
+ghost use Rattle.verdict_text.specs.Answer.{refusal_number, is_long, judged, response_text, Left, Written, LosesFewer, AppendsFront, cause};
 ghost use Rattle.verdict_text.specs.Steps.{Fills, Reads};
 ghost use Rattle.verdict_text.specs.Examples.{TextExamples};
 
-use crate::read::{FRAME_LINE, read_store};
+use crate::read::{FRAMES, read_store};
 use crate::write::{LAST_LINE, VERDICT_LINE, write_judgement, write_refusal};
 use judge::frames::{FRAME, VERDICT, judge};
-use judge::verdict::{JudgeError, Judgement};
+use judge::verdict::{JudgeError, Judgement, MOST_PAIRS};
 use std::fmt;
 use std::io::{self, ErrorKind, Read, Write};
 
-// No heap: the buffers have the room that the longest text takes, and beside each goes how many of its bytes count.
+// No heap: one buffer has the room of the longest text, the others that of the most pairs of a judgement, and beside each goes how many of
+// its bytes count.
 
 /// The longest text that is judged.
 const LONGEST: usize = 65536;
 
-/// The most pairs in one, and the room that their frames, their verdicts and the answer take.
-const PAIRS: usize = LONGEST / FRAME_LINE;
+/// The room that the verdicts of a judgement and the answer take.
+const VERDICTS: usize = MOST_PAIRS * VERDICT;
 
-const FRAMES: usize = PAIRS * FRAME;
-
-const VERDICTS: usize = PAIRS * VERDICT;
-
-const ROOM: usize = PAIRS * VERDICT_LINE + LAST_LINE;
+const ROOM: usize = MOST_PAIRS * VERDICT_LINE + LAST_LINE;
 
 /// Why a text is not judged.
 #[derive(Clone, Copy)]
@@ -208,6 +205,9 @@ fn judged(
     let Some((clean, pairs)) = read_store(text, &mut frames) else {
         return Err(Refusal::BadLine);
     };
+    if pairs > MOST_PAIRS {
+        return Err(Refusal::Judge(JudgeError::TooManyPairs));
+    }
     let frames = &frames[..pairs * FRAME];
     match judge(frames, u8::from(clean), &mut verdicts[..pairs * VERDICT]) {
         Ok(judgement) => Ok((pairs, judgement)),

@@ -1,15 +1,16 @@
 // The lines that are read: the clean mark, `00` or `01`, then a frame a line, two lower-case hexadecimal digits a byte. A newline ends
 // each.
-ghost use Rattle.std.specs.Prelude.{◌≡◌, ◌+◌, ◌*◌, ◌/◌, ◌≤◌, length, take, IfSome, MatchOption, ◌==◌, ◌<◌};
+ghost use Rattle.std.specs.Prelude.{◌≡◌, ◌+◌, ◌++◌, ◌==◌, ◌<◌, List, ℕ, length, Some, IfSome, MatchOption};
 ghost use Rattle.std.specs.List.{list_all, position};
-ghost use Rattle.verdict_text.specs.Read.{is_digit, cut, mark_of, frame_of, line_width, frames_in, store_in};
-ghost use Rattle.judge.specs.Frames.{frame_width};
+ghost use Rattle.verdict_text.specs.Read.{is_digit, cut, mark_of, frame_of, frames_in, store_in};
+ghost use Rattle.verdict_text.specs.Steps.{Holds};
 
 use hex::FromHex;
-use judge::frames::FRAME;
+use judge::frames::{FRAME, is_in_range};
+use judge::verdict::MOST_PAIRS;
 
-/// The width of a frame's line.
-pub(crate) const FRAME_LINE: usize = 2 * FRAME + 1;
+/// The room that the frames of a judgement take.
+pub(crate) const FRAMES: usize = MOST_PAIRS * FRAME;
 
 /// Whether each character is one of `0` to `9` and `a` to `f`.
 pub fn is_lower_hex(text: &[u8]) -> bool
@@ -47,37 +48,47 @@ fn read_mark(line: &[u8]) -> Option<bool>
     }
 }
 
+// A frame whose codes and facts are in range.
 fn read_frame(line: &[u8]) -> Option<[u8; FRAME]>
     ensures { result ≡ frame_of line.now }
 {
     if !is_lower_hex(line) {
         return None;
     }
-    <[u8; FRAME]>::from_hex(line).ok()
+    let frame = <[u8; FRAME]>::from_hex(line).ok()?;
+    is_in_range(&frame).then_some(frame)
 }
 
-// Reads the frames of lines to the start of `frames`, and tells how many they are.
-fn read_frames(text: &[u8], frames: &mut [u8]) -> Option<usize>
-    requires { length text.now / line_width * frame_width ≤ length frames.old }
-    ensures { MatchOption result (frames_in text.now ≡ None) (λ n. (frames_in text.now ≡ Some (take (n * frame_width) frames.new)) × (n * line_width ≤ length text.now)) }
+// Puts a frame behind so many others, where there is room for it.
+fn hold(frames: &mut [u8; FRAMES], pairs: usize, frame: &[u8; FRAME])
+    ensures { (read : List ℕ) → Holds frames.old pairs read → Holds frames.new (pairs + 1) (read ++ frame.now) }
+{
+    if pairs < MOST_PAIRS {
+        frames[pairs * FRAME..(pairs + 1) * FRAME].copy_from_slice(frame);
+    }
+}
+
+// Reads the frames of lines, and tells how many they are. As many as there is room for stand at the start of `frames`; a line after them is
+// read as well, since a bad one comes before too many.
+fn read_frames(text: &[u8], frames: &mut [u8; FRAMES]) -> Option<usize>
+    ensures { MatchOption result (frames_in text.now ≡ None) (λ n. (read : List ℕ) × (frames_in text.now ≡ Some read) × Holds frames.new n read) }
 {
     let mut lines = text;
     let mut pairs = 0;
     while !lines.is_empty() {
         let (line, others) = cut(lines, b'\n')?;
         let frame = read_frame(line)?;
-        frames[pairs * FRAME..(pairs + 1) * FRAME].copy_from_slice(&frame);
+        hold(frames, pairs, &frame);
         pairs += 1;
         lines = others;
     }
     Some(pairs)
 }
 
-/// Reads the clean mark, and the frames to the start of `frames`, and tells how many they are.
+/// Reads the clean mark and the frames, and tells how many they are. As many as are judged stand at the start of `frames`.
 #[tactic(auto, using(crate::proofs::ReadLaws::store_cut))]
-pub(crate) fn read_store(text: &[u8], frames: &mut [u8]) -> Option<(bool, usize)>
-    requires { length text.now / line_width * frame_width ≤ length frames.old }
-    ensures { MatchOption result (store_in text.now ≡ None) (λ read. (store_in text.now ≡ Some (read.0, take (read.1 * frame_width) frames.new)) × (read.1 * line_width ≤ length text.now)) }
+pub(crate) fn read_store(text: &[u8], frames: &mut [u8; FRAMES]) -> Option<(bool, usize)>
+    ensures { MatchOption result (store_in text.now ≡ None) (λ found. (read : List ℕ) × (store_in text.now ≡ Some (found.0, read)) × Holds frames.new found.1 read) }
 {
     let (mark, lines) = cut(text, b'\n')?;
     let clean = read_mark(mark)?;
