@@ -4,7 +4,7 @@ use crate::bench::{cells, Contestant, Table, OURS};
 use crate::ffi;
 use crate::frames::{packed, Cut, Store};
 use crate::judge::{judge, Judgement, PairRead, PairVerdict};
-use crate::judge_reference::{decode, judgement_numbers, verdict_bytes, NOT_JUDGED, NOT_READ, VERDICT};
+use crate::judge_reference::{decode, judgement_numbers, verdict_bytes, MOST_PAIRS, NOT_JUDGED, NOT_READ, VERDICT};
 use crate::rng::Rng;
 use crate::slot::SlotInfo;
 use crate::slot_reference::some_info;
@@ -21,7 +21,7 @@ pub struct Input {
     verdicts: Vec<PairVerdict>,
 }
 
-const SIZES: &[usize] = &[1, 16, 112, 624];
+const SIZES: &[usize] = &[1, 16, MOST_PAIRS];
 
 const CONTESTANTS: &[Contestant<Input>] = &[
     Contestant { name: "Rust over decoded pairs", call: rust_judge },

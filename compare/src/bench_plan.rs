@@ -3,6 +3,7 @@
 use crate::bench::{cells, Contestant, Table, OURS};
 use crate::ffi_plan;
 use crate::frames::{packed, Cut, Store, BAD_PAYLOAD, FRAME, HALF};
+use crate::judge_reference::MOST_PAIRS;
 use crate::pair::decide;
 use crate::rng::Rng;
 use crate::slot::{SlotInfo, SlotStatus};
@@ -18,7 +19,7 @@ pub struct Input {
 pub const PLAN_WRITE: Table<Input> = Table {
     title: "next write, planned",
     unit: "pairs",
-    sizes: &[1, 16, 112, 624],
+    sizes: &[1, 16, MOST_PAIRS],
     input: torn_store,
     contestants: &[Contestant { name: "Rust in one pass", call: rust_plan }, Contestant { name: OURS, call: our_plan }],
 };

@@ -3,7 +3,7 @@
 use crate::answers::Left;
 use crate::counts::{Answer, Function};
 use crate::cut_records::Kind;
-use crate::cut_store::{Pair, Write, MOST_PAIRS};
+use crate::cut_store::{Pair, Write, MOST_OF_SMALL};
 use crate::cutting::Cutting;
 use crate::part::Run;
 use crate::sample::{HEADER, HEADER_CRC, SMALLEST_LOG2};
@@ -97,7 +97,7 @@ pub const BY_SECTORS: &[Function] = &[
 pub const OLDER_PASSING: &[Function] = &[Function::new(PAGE_OLDER, &[Answer::Decision(OLDER_PASSES)])];
 
 /// How many pairs a store has, from 1 on.
-pub const COUNTS_OF_PAIRS: [Answer; MOST_PAIRS] = [
+pub const COUNTS_OF_PAIRS: [Answer; MOST_OF_SMALL] = [
     Answer::Decision("1"),
     Answer::Decision("2"),
     Answer::Decision("3"),

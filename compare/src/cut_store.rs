@@ -10,7 +10,7 @@ use crate::rng::Rng;
 use crate::sample::{HEADER, YES};
 use crate::tear::Medium;
 
-pub const MOST_PAIRS: usize = 8;
+pub const MOST_OF_SMALL: usize = 8;
 
 /// A pair: its slots as they are stored, and what is known of the slot that wins.
 pub struct Pair {
@@ -43,7 +43,7 @@ pub struct Write {
 }
 
 pub fn random_store(rng: &mut Rng, tried: &dyn Implementation, medium: Medium) -> Vec<Pair> {
-    let pairs = 1 + rng.below(MOST_PAIRS);
+    let pairs = 1 + rng.below(MOST_OF_SMALL);
     store_of(rng, tried, pairs, |rng| medium.log2(rng))
 }
 

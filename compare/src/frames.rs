@@ -1,5 +1,6 @@
 //! Rows of frames to judge: pairs of a known form, stores written like real ones and torn, and pairs of a few values.
 
+use crate::judge_reference::MOST_PAIRS;
 use crate::rng::Rng;
 
 /// The bytes of a pair, and of each slot in it.
@@ -239,12 +240,13 @@ fn torn(rng: &mut Rng, slot: &Slot, cut: Cut) -> Slot {
     }
 }
 
-/// Few pairs for the most part, seldom thousands.
+/// Few pairs for the most part, seldom about as many as are judged, or thousands.
 fn random_len(rng: &mut Rng) -> usize {
     match rng.below(4096) {
         0 => 1000 + rng.below(3000),
         1..=15 => 40 + rng.below(200),
-        16..=800 => 1,
+        16..=23 => MOST_PAIRS - 1 + rng.below(3),
+        24..=800 => 1,
         _ => 1 + rng.below(8),
     }
 }

@@ -1,24 +1,23 @@
 //! Random stores for a history, and random correct writes to them.
 
-use crate::cut_store::{self, fitting_entries, store_of, MOST_PAIRS};
+use crate::cut_store::{self, fitting_entries, store_of, MOST_OF_SMALL};
 use crate::ffi_plan::Written;
 use crate::history::History;
 use crate::history_pair::{Pair, Write};
 use crate::implementation::Implementation;
+use crate::judge_reference::MOST_PAIRS;
 use crate::plan_reference::Plan;
 use crate::rng::Rng;
 use crate::sample::{HEADER, SMALLEST_LOG2};
 use crate::tear::Tear;
 
-const MOST_OF_LARGE: usize = 112;
-
 /// Of few pairs for the most part, else of many with the smallest slots.
 pub fn random_store(rng: &mut Rng, tried: &dyn Implementation) -> Vec<cut_store::Pair> {
     if rng.one_in(64) {
-        let pairs = MOST_PAIRS + 1 + rng.below(MOST_OF_LARGE - MOST_PAIRS);
+        let pairs = MOST_OF_SMALL + 1 + rng.below(MOST_PAIRS - MOST_OF_SMALL);
         return store_of(rng, tried, pairs, |_| SMALLEST_LOG2);
     }
-    let pairs = 1 + rng.below(MOST_PAIRS);
+    let pairs = 1 + rng.below(MOST_OF_SMALL);
     store_of(rng, tried, pairs, |rng| rng.pick(&[9, 9, 9, 9, 10, 10, 10, 10, 11, 11, 12]))
 }
 

@@ -10,6 +10,10 @@ use crate::frames::{FRAME, HALF};
 pub const NO_PAIR: u32 = 8;
 pub const VERDICTS_LEN: u32 = 9;
 pub const BAD_FRAMES: u32 = 10;
+pub const TOO_MANY_PAIRS: u32 = 45;
+
+/// The most pairs of a judgement.
+pub const MOST_PAIRS: usize = 112;
 
 /// The bytes of a pair's verdict.
 pub const VERDICT: usize = 4;
@@ -19,8 +23,16 @@ pub struct Judged {
     pub judgement: [u64; 5],
 }
 
-/// The verdicts and the judgement, or the number of a refusal. The reference has the numbers 8 and 9 only.
+/// The verdicts and the judgement, or the number of a refusal. The reference has the numbers 8 and 9 only, and judges any number of pairs.
 pub fn judge(frames: &[u8], clean: u8, verdicts_len: usize) -> Result<Judged, u32> {
+    if frames.len() > MOST_PAIRS * FRAME {
+        return Err(TOO_MANY_PAIRS);
+    }
+    judge_any(frames, clean, verdicts_len)
+}
+
+/// The same without the limit on pairs.
+pub fn judge_any(frames: &[u8], clean: u8, verdicts_len: usize) -> Result<Judged, u32> {
     if frames.is_empty() {
         return Err(NO_PAIR);
     }
@@ -44,6 +56,9 @@ pub fn judge_records(frames: &[u8], clean: bool, room: usize) -> (u32, Vec<u8>) 
     let mut pairs = vec![NOT_READ; frames.len() / FRAME];
     assert!(decode(&some_info(), frames, &mut pairs), "a value is out of range");
     let mut verdicts = vec![NOT_JUDGED; room];
+    if pairs.len() > MOST_PAIRS {
+        return (TOO_MANY_PAIRS, verdicts.iter().flat_map(verdict_bytes).collect());
+    }
     let refusal = match judge::judge(&pairs, clean, &mut verdicts) {
         Err(JudgeError::Empty) => NO_PAIR,
         Err(JudgeError::OutputLength) => VERDICTS_LEN,

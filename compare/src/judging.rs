@@ -3,7 +3,7 @@
 use crate::counts::{Answer, Function};
 use crate::ffi;
 use crate::frames::{packed, random_row, BAD_HEADER, FRAME, HALF};
-use crate::judge_reference::{judge, Judged, BAD_FRAMES, NO_PAIR, VERDICT, VERDICTS_LEN};
+use crate::judge_reference::{judge, judge_any, Judged, BAD_FRAMES, NO_PAIR, TOO_MANY_PAIRS, VERDICT, VERDICTS_LEN};
 use crate::judging_sweep::sweep;
 use crate::lent::{Lent, LentCell};
 use crate::part::{number, Checked, Part, Report, Run};
@@ -12,8 +12,17 @@ use crate::rng::Rng;
 const JUDGE: &str = "sio_judge";
 const VOLUME: &str = "sio_judge: volume";
 const PAGE: &str = "sio_judge: page";
+const OTHER: &str = "sio_judge: the Rust's other answer";
 
-const REFUSALS: &[Answer] = &[Answer::Refusal(NO_PAIR), Answer::Refusal(VERDICTS_LEN), Answer::Refusal(BAD_FRAMES)];
+const REFUSALS: &[Answer] = &[
+    Answer::Refusal(NO_PAIR),
+    Answer::Refusal(TOO_MANY_PAIRS),
+    Answer::Refusal(VERDICTS_LEN),
+    Answer::Refusal(BAD_FRAMES),
+];
+
+/// What is answered without the limit on pairs where more are handed over: the Rust judges them or refuses the room, its decoder the frames.
+const OTHERS: &[Answer] = &[Answer::Done, Answer::Refusal(VERDICTS_LEN), Answer::Refusal(BAD_FRAMES)];
 
 pub const JUDGEMENTS: &[Answer] = &[
     Answer::Decision("heal volume A"),
@@ -52,6 +61,7 @@ pub const PART: Part = Part {
         Function::new(JUDGE, JUDGEMENTS),
         Function::part(VOLUME, VERDICTS),
         Function::part(PAGE, VERDICTS),
+        Function::part(OTHER, OTHERS),
     ],
     sweep,
     round,
@@ -115,6 +125,9 @@ pub fn compare(run: &mut Run, call: &Call) -> Checked {
         verdicts.expected_mut().copy_from_slice(&judged.verdicts);
         count_verdicts(run, [VOLUME, PAGE], &call.frames, judged);
     }
+    if matches!(expected, Err(TOO_MANY_PAIRS)) {
+        run.counts.add_part(OTHER, other(&judge_any(&call.frames, call.clean, call.verdicts_len)));
+    }
     let expected_refusal = expected.as_ref().map_or_else(|refusal| *refusal, |_| 0);
     let expected_judgement = expected.as_ref().ok().map(|judged| judged.judgement);
     let refusal = ffi::judge(frames.cells(), call.clean, verdicts.cells(), judgement.cell());
@@ -161,6 +174,10 @@ pub fn judgement_answer(judged: &Judged) -> Answer {
         [0, 0, 0, 1, 1] => "refused, clean",
         judgement => panic!("the reference gives a judgement of no known form: {judgement:?}"),
     })
+}
+
+fn other(rust: &Result<Judged, u32>) -> Answer {
+    rust.as_ref().map_or_else(|refusal| Answer::Refusal(*refusal), |_| Answer::Done)
 }
 
 /// Counts the volume record's verdict under one name, the pages' under another.

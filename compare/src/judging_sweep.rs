@@ -4,7 +4,7 @@ use crate::frames::{
     packed, Cut, Pair, Slot, Store, BAD_HEADER, BAD_PAYLOAD, CUTS, FIRST, FORMS, FRAME, HALF, NUMBER_BELOW, SOUND_A,
     SOUND_B, TORN_HEADER_B, VALID,
 };
-use crate::judge_reference::VERDICT;
+use crate::judge_reference::{MOST_PAIRS, VERDICT};
 use crate::judging::{compare, Call};
 use crate::part::{Checked, Run};
 use crate::rng::Rng;
@@ -21,6 +21,7 @@ pub fn sweep(run: &mut Run) -> Checked {
     two_places(run)?;
     long_rows(run)?;
     many_alike(run)?;
+    most_lengths(run)?;
     lengths(run)?;
     values(run)
 }
@@ -191,9 +192,9 @@ fn two_places(run: &mut Run) -> Checked {
     Ok(())
 }
 
-/// Rows with more pairs than 8 and 16 bits count, torn at both ends.
+/// Rows of about as many pairs as are judged and longer ones, torn at both ends.
 fn long_rows(run: &mut Run) -> Checked {
-    for pairs in [256, 257, 4096, 70_000] {
+    for pairs in [MOST_PAIRS - 1, MOST_PAIRS, MOST_PAIRS + 1, MOST_PAIRS + 2, 256, 4096, 70_000] {
         for place in [0, pairs - 1] {
             let mut store = Store::random(&mut run.rng, pairs);
             store.tear(&mut run.rng, place, Cut::Header);
@@ -204,16 +205,36 @@ fn long_rows(run: &mut Run) -> Checked {
     Ok(())
 }
 
-/// One more torn write, and one more slot with the highest number, than 8 and 16 bits count.
+/// As many torn writes, and slots with the highest number, as there are in a row that is judged, and one more.
 fn many_alike(run: &mut Run) -> Checked {
-    for count in [1 << 8, 1 << 16] {
-        let mut row = vec![TORN_HEADER_B; count + 1];
+    for count in [MOST_PAIRS - 1, MOST_PAIRS] {
+        let mut row = vec![TORN_HEADER_B; count];
         compare_row(run, &row, 0)?;
         row.insert(0, FIRST);
         compare_row(run, &row, 0)?;
         let mut row = vec![SOUND_A; count];
         row.push(NUMBER_BELOW);
         compare_row(run, &row, 0)?;
+    }
+    Ok(())
+}
+
+/// Every length of frames about that of the most pairs, with verdicts of the right and of other lengths, good and bad marks, and values out
+/// of range.
+fn most_lengths(run: &mut Run) -> Checked {
+    let most = MOST_PAIRS * FRAME;
+    let row = packed(&Store::random(&mut run.rng, MOST_PAIRS + 2).row);
+    for frames_len in most - FRAME - 1..=most + FRAME + 1 {
+        for clean in [0, 1, 2] {
+            for code in [row[0], VALID + 1] {
+                let mut frames = row[..frames_len].to_vec();
+                frames[0] = code;
+                let good = Call::new(frames, clean);
+                for verdicts_len in [0, good.verdicts_len - VERDICT, good.verdicts_len, good.verdicts_len + VERDICT] {
+                    compare(run, &Call { frames: good.frames.clone(), clean, verdicts_len })?;
+                }
+            }
+        }
     }
     Ok(())
 }

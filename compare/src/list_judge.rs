@@ -1,4 +1,4 @@
-//! The fixed list of the judge: rows for the judge over frames and the judge over records, and what one of them refuses.
+//! The fixed list of the judge: rows for the judge over frames and the judge over records, and what they refuse.
 //!
 //! | NAME | judges | INPUT | EXPECTED |
 //! |---|---|---|---|
@@ -16,7 +16,7 @@ use crate::frames::{
     OLDER_PAYLOAD_A, OLDER_PAYLOAD_B, REFUSED_A, REFUSED_B, SOUND_A, SOUND_B, TORN_HEADER_A, TORN_HEADER_B,
     TORN_PAYLOAD_A, TORN_PAYLOAD_B, UNREAD_A, UNREAD_B, VALID,
 };
-use crate::judge_reference::{judge, judge_records, Judged, VERDICT};
+use crate::judge_reference::{judge, judge_records, Judged, MOST_PAIRS, VERDICT};
 use crate::list::List;
 use crate::value::Value;
 
@@ -108,6 +108,10 @@ pub fn fill(list: &mut List) {
     for (clean, row, room) in ROW_REFUSALS {
         over_records(list, *clean, &packed(row), *room);
     }
+    // A byte more than the most pairs have, and a record more
+    let frames = packed(&[SOUND_A; MOST_PAIRS + 1]);
+    over_frames(list, 2, 0, &frames[..MOST_PAIRS * FRAME + 1]);
+    over_records(list, 0, &frames, MOST_PAIRS + 1);
 }
 
 /// A row for both judges.
@@ -120,9 +124,10 @@ pub fn both(list: &mut List, clean: u8, frames: &[u8]) -> Judged {
 }
 
 /// Frames that the judge over frames refuses.
-fn over_frames(list: &mut List, clean: u8, verdicts_len: usize, frames: &[u8]) {
+pub fn over_frames(list: &mut List, clean: u8, verdicts_len: usize, frames: &[u8]) -> u32 {
     let Err(refusal) = judge(frames, clean, verdicts_len) else { panic!("the reference refuses no such frames") };
     list.line("frm", &input(clean, verdicts_len, frames), &[refusal as u8]);
+    refusal
 }
 
 /// A row that the judge over records refuses.

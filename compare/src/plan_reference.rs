@@ -5,7 +5,7 @@ use crate::ffi::Version;
 use crate::ffi_pair::PairIdentity;
 use crate::ffi_plan::Written;
 use crate::frames::{Slot, BAD_PAYLOAD, BLANK, FRAME, HALF, INCOMPATIBLE, UNSUPPORTED, VALID};
-use crate::judge_reference::{self, BAD_FRAMES, NO_PAIR, VERDICT};
+use crate::judge_reference::{self, BAD_FRAMES, MOST_PAIRS, NO_PAIR, TOO_MANY_PAIRS, VERDICT};
 use crate::slot_reference;
 
 /// No generation or no number is left.
@@ -54,6 +54,9 @@ pub fn heal_numbers(heal: &Option<(usize, Plan)>) -> [u64; 5] {
 fn read(frames: &[u8], clean: u8) -> Result<Vec<[Slot; 2]>, u32> {
     if frames.is_empty() {
         return Err(NO_PAIR);
+    }
+    if frames.len() > MOST_PAIRS * FRAME {
+        return Err(TOO_MANY_PAIRS);
     }
     if frames.len() % FRAME != 0 {
         return Err(BAD_FRAMES);

@@ -5,6 +5,7 @@ use crate::faults::IMPOSSIBLE_LOG2S;
 use crate::ffi_pair::PairIdentity;
 use crate::ffi_plan::{self, Written};
 use crate::frames::{packed, random_row, Pair, Slot, BLANK, FIRST, FORMS, FRAME, HALF, SOUND_A, VALID};
+use crate::judge_reference::MOST_PAIRS;
 use crate::lent::{Lent, LentCell};
 use crate::outcome::{answer, filled, Call, Expected, Held};
 use crate::part::{number, Checked, Fields, Part, Run};
@@ -24,16 +25,27 @@ const SLOT_B: Answer = Answer::Decision("slot B");
 const FIRST_WRITE: Answer = Answer::Decision("first write");
 const NONE: Answer = Answer::Decision("none");
 
-const NUMBERS: &[Answer] = &[Answer::Done, Answer::Refusal(8), Answer::Refusal(10), Answer::Refusal(48)];
-const PLANS: &[Answer] =
-    &[SLOT_A, SLOT_B, FIRST_WRITE, NONE, Answer::Refusal(8), Answer::Refusal(10), Answer::Refusal(48)];
-const HEALS: &[Answer] = &[SLOT_A, SLOT_B, NONE, Answer::Refusal(8), Answer::Refusal(10), Answer::Refusal(48)];
+const NUMBERS: &[Answer] =
+    &[Answer::Done, Answer::Refusal(8), Answer::Refusal(45), Answer::Refusal(10), Answer::Refusal(48)];
+const PLANS: &[Answer] = &[
+    SLOT_A,
+    SLOT_B,
+    FIRST_WRITE,
+    NONE,
+    Answer::Refusal(8),
+    Answer::Refusal(45),
+    Answer::Refusal(10),
+    Answer::Refusal(48),
+];
+const HEALS: &[Answer] =
+    &[SLOT_A, SLOT_B, NONE, Answer::Refusal(8), Answer::Refusal(45), Answer::Refusal(10), Answer::Refusal(48)];
 const WRITES: &[Answer] = &[
     SLOT_A,
     SLOT_B,
     FIRST_WRITE,
     NONE,
     Answer::Refusal(8),
+    Answer::Refusal(45),
     Answer::Refusal(10),
     Answer::Refusal(48),
     Answer::Refusal(1),
@@ -72,7 +84,8 @@ impl Asked {
 
 fn sweep(run: &mut Run) -> Checked {
     every_form(run)?;
-    two_statuses(run)
+    two_statuses(run)?;
+    most_lengths(run)
 }
 
 /// Every form of a pair, alone and beside others, as it is and with the last numbers and generations.
@@ -123,6 +136,20 @@ fn two_statuses(run: &mut Run) -> Checked {
                 (second.code, second.facts) = (b, facts / 3);
                 compare(run, &Asked::new(&[FIRST, [first, second]], 0, 1))?;
             }
+        }
+    }
+    Ok(())
+}
+
+/// Every length of frames about that of the most pairs, with good and bad marks.
+fn most_lengths(run: &mut Run) -> Checked {
+    let most = MOST_PAIRS * FRAME;
+    let row = vec![SOUND_A; MOST_PAIRS + 2];
+    for frames_len in most - FRAME - 1..=most + FRAME + 1 {
+        for clean in [0, 2] {
+            let mut asked = Asked::new(&row, clean, MOST_PAIRS - 1);
+            asked.frames.truncate(frames_len);
+            compare(run, &asked)?;
         }
     }
     Ok(())

@@ -1,12 +1,13 @@
 //! Hands random rows, in lists like the fixed one of list_judge.rs, to the program `replay_judge`: both judges must answer
-//! what the reference answers. The lists begin with a row each, of 1 pair to the most in turn, and go on with rows of few pairs.
+//! what the reference answers. The lists begin with a row each, of 1 pair to the most that the program takes in turn, and go on with rows
+//! of few pairs.
 
 use crate::counts::{Answer, Counts, Function};
 use crate::frames::{packed, row_of};
-use crate::judge_reference::{NO_PAIR, VERDICTS_LEN};
+use crate::judge_reference::{MOST_PAIRS, NO_PAIR, TOO_MANY_PAIRS, VERDICT, VERDICTS_LEN};
 use crate::judging::{count_verdicts, judgement_answer, JUDGEMENTS, VERDICTS};
 use crate::list::List;
-use crate::list_judge::{both, over_records};
+use crate::list_judge::{both, over_frames, over_records};
 use crate::part::{Checked, Report, Run};
 use crate::program::output;
 use crate::rng::Rng;
@@ -16,11 +17,11 @@ const ROWS: &str = "judge over rows";
 const VOLUME: &str = "judge over rows: volume";
 const PAGE: &str = "judge over rows: page";
 
-const REFUSALS: &[Answer] = &[Answer::Refusal(NO_PAIR), Answer::Refusal(VERDICTS_LEN)];
+const REFUSALS: &[Answer] = &[Answer::Refusal(NO_PAIR), Answer::Refusal(TOO_MANY_PAIRS), Answer::Refusal(VERDICTS_LEN)];
 
 /// The most pairs of a row and the most bytes of a list that the program takes; of the other rows the most pairs, and the most bytes of
 /// a line.
-const MOST_PAIRS: usize = 624;
+const LONGEST_ROW: usize = 2 * MOST_PAIRS;
 const LONGEST_LIST: usize = 131_072;
 const FEW_PAIRS: usize = 5;
 const LONGEST_LINE: usize = 700;
@@ -35,7 +36,7 @@ pub fn run(program: &str, seed: u64, lists: u64) -> ExitCode {
     ];
     let mut run = Run { rng: Rng::new(seed), counts: Counts::new(functions.iter()) };
     for number in 0..lists {
-        let pairs = 1 + number as usize % MOST_PAIRS;
+        let pairs = 1 + number as usize % LONGEST_ROW;
         if let Err(mismatch) = compare(&mut run, program, pairs) {
             print!("{mismatch}");
             return ExitCode::FAILURE;
@@ -50,7 +51,7 @@ pub fn run(program: &str, seed: u64, lists: u64) -> ExitCode {
     println!(
         "rows: {} cases in {lists} lists, rows of up to {} pairs, all equal",
         run.counts.total(),
-        MOST_PAIRS.min(lists as usize)
+        LONGEST_ROW.min(lists as usize)
     );
     ExitCode::SUCCESS
 }
@@ -58,9 +59,15 @@ pub fn run(program: &str, seed: u64, lists: u64) -> ExitCode {
 /// One list, as long as the program takes it, that begins with a row of so many pairs.
 fn compare(run: &mut Run, program: &str, pairs: usize) -> Checked {
     let mut list = List::new(run.rng.next());
-    judged_row(run, &mut list, pairs);
-    let mut judged = 1;
-    let mut refused = 0;
+    let (mut judged, mut long, mut refused) = (0, 0, 0);
+    if pairs > MOST_PAIRS {
+        long_row(run, &mut list, pairs);
+        long += 1;
+        refused += 1;
+    } else {
+        judged_row(run, &mut list, pairs);
+        judged += 1;
+    }
     while list.text.len() + LONGEST_LINE <= LONGEST_LIST {
         if list.rng.one_in(16) {
             refused_row(run, &mut list);
@@ -71,8 +78,8 @@ fn compare(run: &mut Run, program: &str, pairs: usize) -> Checked {
             judged += 1;
         }
     }
-    let cases = judged + refused;
-    let expected = format!("jdg {judged} equal\nfrm 0 equal\nrow {refused} equal\n{cases} cases, all equal\n");
+    let cases = judged + long + refused;
+    let expected = format!("jdg {judged} equal\nfrm {long} equal\nrow {refused} equal\n{cases} cases, all equal\n");
     let found = output(program, list.text.as_bytes(), &[list.text.len()]);
     let equal = found.as_ref().is_ok_and(|found| found.stdout == expected.as_bytes() && found.status.code().is_some());
     run.check(ROWS, equal, || Report {
@@ -91,6 +98,14 @@ fn judged_row(run: &mut Run, list: &mut List, pairs: usize) {
     let judged = both(list, clean, &frames);
     run.counts.add(ROWS, judgement_answer(&judged));
     count_verdicts(run, [VOLUME, PAGE], &frames, &judged);
+}
+
+/// More pairs than are judged: both judges refuse.
+fn long_row(run: &mut Run, list: &mut List, pairs: usize) {
+    let frames = packed(&row_of(&mut list.rng, pairs));
+    for refusal in [over_frames(list, 0, pairs * VERDICT, &frames), over_records(list, 0, &frames, pairs)] {
+        run.counts.add(ROWS, Answer::Refusal(refusal));
+    }
 }
 
 /// No pair, or verdicts for another number of pairs.

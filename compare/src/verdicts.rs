@@ -1,8 +1,8 @@
 //! Runs the program `verdicts` on texts and compares what it prints with the reference's answer.
 
 use crate::counts::{Answer, Counts, Function};
-use crate::frames::{packed, row_of, Cut, Pair, Store, FRAME, HALF};
-use crate::judge_reference::{judge, Judged, BAD_FRAMES, NO_PAIR, VERDICT};
+use crate::frames::{packed, row_of, Cut, Pair, Store, FRAME, HALF, VALID};
+use crate::judge_reference::{judge, Judged, BAD_FRAMES, MOST_PAIRS, NO_PAIR, TOO_MANY_PAIRS, VERDICT};
 use crate::part::{Checked, Report, Run};
 use crate::program::{output, output_of_reads};
 use crate::rng::Rng;
@@ -14,12 +14,17 @@ const VERDICTS: &str = "verdicts";
 
 const TOO_LONG: u32 = 11;
 
-const ANSWERS: &[Answer] =
-    &[Answer::Done, Answer::Refusal(NO_PAIR), Answer::Refusal(BAD_FRAMES), Answer::Refusal(TOO_LONG)];
+const ANSWERS: &[Answer] = &[
+    Answer::Done,
+    Answer::Refusal(TOO_LONG),
+    Answer::Refusal(BAD_FRAMES),
+    Answer::Refusal(NO_PAIR),
+    Answer::Refusal(TOO_MANY_PAIRS),
+];
 
-/// The most bytes that the program takes, and the most pairs that such a text has.
+/// The most bytes that the program takes, and the most frames that such a text has.
 const LONGEST: usize = 65_536;
-const MOST_PAIRS: usize = 624;
+const MOST_LINES: usize = 624;
 
 /// A mark's line and a frame's, with their newlines.
 const MARK_LINE: usize = 3;
@@ -66,16 +71,17 @@ fn all_runs(run: &mut Run, program: &str, runs: u64) -> Checked {
     for text in SHORT_TEXTS {
         compare(run, program, text.as_bytes())?;
     }
-    for pairs in [1, 2, 3, 255, 256, 257, MOST_PAIRS - 1, MOST_PAIRS, MOST_PAIRS + 1] {
+    for pairs in [1, 2, 3, MOST_PAIRS - 1, MOST_PAIRS, MOST_PAIRS + 1, 255, 256, 257, MOST_LINES, MOST_LINES + 1] {
         let text = good_text(&mut run.rng, pairs);
         compare(run, program, &text)?;
     }
-    for (pairs, place) in [(1, 0), (2, 1), (257, 255), (257, 256), (MOST_PAIRS, 0), (MOST_PAIRS, MOST_PAIRS - 1)] {
+    for (pairs, place) in [(1, 0), (2, 1), (MOST_PAIRS, 0), (MOST_PAIRS, MOST_PAIRS - 1), (MOST_PAIRS + 1, MOST_PAIRS)]
+    {
         let text = torn_text(&mut run.rng, pairs, place);
         compare(run, program, &text)?;
     }
     for change in CHANGES {
-        for pairs in [1, 3, MOST_PAIRS] {
+        for pairs in [1, 3, MOST_PAIRS, MOST_PAIRS + 1, MOST_LINES] {
             changed_text(run, program, *change, pairs)?;
         }
     }
@@ -94,8 +100,9 @@ fn all_runs(run: &mut Run, program: &str, runs: u64) -> Checked {
 
 fn random_len(rng: &mut Rng) -> usize {
     match rng.below(8) {
-        0 => MOST_PAIRS - rng.below(3),
-        1 => 1 + rng.below(MOST_PAIRS),
+        0 => MOST_PAIRS - 1 + rng.below(3),
+        1 => MOST_LINES - rng.below(3),
+        2 => 1 + rng.below(MOST_LINES),
         _ => 1 + rng.below(8),
     }
 }
@@ -260,9 +267,14 @@ fn mark_and_frames(text: &[u8]) -> Option<(u8, Vec<u8>)> {
     };
     let mut frames = Vec::new();
     for line in lines {
-        frames.extend(bytes_of(line).filter(|frame| frame.len() == FRAME)?);
+        frames.extend(bytes_of(line).filter(|bytes| is_frame(bytes))?);
     }
     Some((clean, frames))
+}
+
+/// As long as a frame, with codes and facts in range.
+fn is_frame(bytes: &[u8]) -> bool {
+    bytes.len() == FRAME && bytes.chunks(HALF).all(|part| part[0] <= VALID && part[1] <= 2)
 }
 
 /// The bytes of a line of lower-case hex.

@@ -6,11 +6,11 @@
 //
 // | NAME | judges | INPUT | EXPECTED |
 // |---|---|---|---|
-// | jdg | both | MARK, frames of 1 to 624 pairs | 0 (1), JUDGEMENT, verdicts |
+// | jdg | both | MARK, frames of 1 to 112 pairs | 0 (1), JUDGEMENT, verdicts |
 // | frm | over frames | MARK, frames | refusal (1) |
-// | row | over the row | MARK, frames of at most 624 pairs | refusal (1), verdicts as they were |
+// | row | over the row | MARK, frames of at most 224 pairs | refusal (1), verdicts as they were |
 //
-// - MARK: the clean mark (1) and the length of the lent verdicts (2), at most 2,496.
+// - MARK: the clean mark (1) and the length of the lent verdicts (2), at most 896.
 // - JUDGEMENT: the slot to heal, its pair, writable, clean, refused (8 each).
 // - Verdicts have 4 bytes each. Before the judge over the row is called they are Lost, no winner, Damage and Damage.
 //
@@ -22,14 +22,14 @@ use cases::input::{first_length, first_u8, narrow};
 use cases::replay::{Bytes, Table};
 use judge::frames::VERDICT;
 use judge::records::{PairRead, SlotRead};
-use judge::verdict::{PairVerdict, SlotVerdict, Standing};
+use judge::verdict::{MOST_PAIRS, PairVerdict, SlotVerdict, Standing};
 use row::{judge_row, put_verdicts};
 use slot::slot::SlotStatus;
 use std::io;
 use store_io::judging::{judgement_values, sio_judge};
 
-/// The most pairs of a row.
-const PAIRS: usize = 624;
+/// The most pairs of a row: more than are judged, to be refused.
+const PAIRS: usize = 2 * MOST_PAIRS;
 
 struct Judges;
 
