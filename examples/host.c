@@ -26,7 +26,7 @@
  * numbered. The volume id is the 16 letters "store-io example", the volume record is object 0, page p is object 2^61 + p.
  *
  * The host asks for no memory of its own. Its buffers are static: two slots of 64 KiB as read, a slot and a record to be
- * written, and a frame and a verdict for each of at most 1025 pairs. A store of more than 1024 pages is turned away. */
+ * written, and a frame and a verdict for each of the pairs that the judge takes at most. A store of more pages is turned away. */
 #include <errno.h>
 #include <inttypes.h>
 #include <stdio.h>
@@ -41,7 +41,7 @@ enum { DONE, FAULT, USAGE, IO };
 #define LOG2_BLOCK 12
 #define BLOCK (UINT64_C(1) << LOG2_BLOCK)
 #define MAX_SLOT 65536
-#define MAX_PAGES 1024
+#define MAX_PAGES (SIO_MOST_PAIRS - 1)
 
 #define NUMBERED 1
 #define VOLUME0 UINT64_C(0x6f692d65726f7473) /* "store-io" */
@@ -78,8 +78,8 @@ struct current {
 static uint8_t slots[2][MAX_SLOT];
 static uint8_t fresh[MAX_SLOT];
 static uint8_t payload[MAX_SLOT];
-static uint8_t frames[MAX_PAGES + 1][2][SIO_PART_LEN];
-static uint8_t verdicts[MAX_PAGES + 1][SIO_VERDICT_LEN];
+static uint8_t frames[SIO_MOST_PAIRS][2][SIO_PART_LEN];
+static uint8_t verdicts[SIO_MOST_PAIRS][SIO_VERDICT_LEN];
 
 static const char *const status_names[] = {
     "ReadError", "BadLength", "Blank",       "BadMagic",  "BadHeaderCrc",  "UnsupportedVersion", "Incompatible",
@@ -176,7 +176,7 @@ static int check_record(struct store *store) {
         return fault("the volume record has another block size than the image");
     }
     if (pages > MAX_PAGES) {
-        return fault("more pages than this example holds");
+        return fault("more pages than are judged");
     }
     store->pairs = (size_t)pages + 1;
     return DONE;

@@ -17,7 +17,6 @@
 
 #define STACK 65536
 #define MAX_SLOT 65536
-#define MAX_PAIRS 1024
 #define PART SIO_PART_LEN
 #define ENTRY SIO_ENTRY_LEN
 #define V0 1
@@ -34,7 +33,7 @@ static uint8_t log2_slot, log2_table;
 static size_t size, position, start, count, page_len, pairs;
 static uint16_t entries_count;
 static uint8_t a[MAX_SLOT], b[MAX_SLOT], out[MAX_SLOT], body[MAX_SLOT], page[MAX_SLOT], entries[MAX_SLOT];
-static uint8_t frames[MAX_PAIRS][2][PART], verdicts[MAX_PAIRS][SIO_VERDICT_LEN];
+static uint8_t frames[SIO_MOST_PAIRS][2][PART], verdicts[SIO_MOST_PAIRS][SIO_VERDICT_LEN];
 static uint8_t record[64];
 static uint8_t value8, kind, name[24], stored[24], id[16], part[PART], report5[5], report7[7], raw[ENTRY];
 static const uint8_t letters[25] = "abcdefghijklmnopqrstuvwx";
@@ -228,7 +227,7 @@ int main(void) {
     enum { ROWS = sizeof rows / sizeof rows[0] };
     static size_t bytes[ROWS][2];
     static const uint8_t slot[2] = {16, 9}, table[2] = {16, 12};
-    static const size_t frame_rows[2] = {MAX_PAIRS, 1};
+    static const size_t frame_rows[2] = {SIO_MOST_PAIRS, 1};
     for (size_t input = 0; input < 2; input++) {
         if (prepare(slot[input], table[input], frame_rows[input]) != 0) {
             printf("the inputs were refused\n");

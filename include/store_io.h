@@ -34,7 +34,7 @@
  *
  *    a slot                     2^log2_slot_size bytes, 512 to 65,536
  *    its payload                up to 128 bytes less than the slot
- *    frames, verdicts           52 and 4 bytes a pair, one pair or more
+ *    frames, verdicts           52 and 4 bytes a pair, 1 to 112 pairs
  *    a volume record            64 bytes to decode, 64 or more to encode; 48 or more for its base
  *    a page                     24 bytes and 96 an entry to decode, that many or more to encode
  *    an entry                   96 bytes or more, of which the first 96 count
@@ -133,6 +133,7 @@ enum {
     SIO_REFUSAL_FOOTPRINT_SEQ = 40,     /* a footprint number of 0 or above the page's */
     SIO_REFUSAL_SLOT = 41,              /* a slot region with extents or sizes */
     SIO_REFUSAL_EXTENT_COUNT = 42,      /* another region without an extent */
+    SIO_REFUSAL_TOO_MANY_PAIRS = 45,    /* frames of more bytes than 112 pairs have */
     SIO_REFUSAL_USED_UP = 48            /* no generation or no number is left below 2^64 */
 };
 
@@ -215,6 +216,7 @@ enum {
     SIO_HEADER_LEN = 128, /* a slot's header */
     SIO_PART_LEN = 26,    /* a slot's part of a frame */
     SIO_FRAME_LEN = 52,   /* a pair's frame */
+    SIO_MOST_PAIRS = 112, /* the most pairs of a store that is judged */
     SIO_VERDICT_LEN = 4,  /* a pair's verdict */
     SIO_VOLUME_LEN = 64,  /* a volume record */
     SIO_BASE_LEN = 48,    /* its base */
@@ -515,7 +517,8 @@ uint32_t sio_winner_payload(const uint8_t *a, size_t a_len, const uint8_t *b, si
  * Open.
  *   1. Read both slots of pair 0. Its record is the payload that sio_winner_payload names; sio_volume_decode gives the fields,
  *      the clean mark among them, and sio_check_file_len holds the table to the file. Where there is no winner or one of them
- *      refuses, there is no store to open.
+ *      refuses, there is no store to open; nor where the record counts more than 111 table pages, since a store of more than
+ *      SIO_MOST_PAIRS pairs is not judged.
  *   2. Read every slot of every pair whole, and fill its part of the frames with sio_frame_slot. A slot that could not be read
  *      is 26 bytes of 0, and never a slot of zeros.
  *   3. Judge: sio_judge, with the clean mark of that record.
@@ -553,9 +556,9 @@ uint32_t sio_winner_payload(const uint8_t *a, size_t a_len, const uint8_t *b, si
  */
 
 /* Judges a whole store from its frames, 52 bytes a pair: the parts of slot A and of slot B, as sio_frame_slot fills them. Pair
- * 0 is the volume record, and clean is its clean mark, 0 or 1. Refuses with 8 (no bytes), 10 (not whole frames), 9
- * (verdicts_len) or 10 (a value out of range), in this order, and leaves verdicts and *judgement; else 0, and all of both is
- * written.
+ * 0 is the volume record, and clean is its clean mark, 0 or 1. Refuses with 8 (no bytes), 45 (more than 5,824 bytes, which are
+ * SIO_MOST_PAIRS frames), 10 (not whole frames), 9 (verdicts_len) or 10 (a value out of range), in this order, and leaves
+ * verdicts and *judgement; else 0, and all of both is written.
  *
  * verdicts, four bytes a pair, SIO_VERDICT_..: the standing (0 Confirmed, 1 Unconfirmed, 2 Lost, 3 Refused), the winner
  * (0 none, 1 A, 2 B), what became of A and of B (0 Winner, 1 Nothing, 2 OlderDamaged, 3 InFlight, 4 Damage).
@@ -569,8 +572,9 @@ uint32_t sio_judge(const uint8_t *frames, size_t frames_len, uint8_t clean, uint
 /* ---- The next write ----
  *
  * What a correct write is: which slot it goes to, and its generation, previous checksum and number. frames are as for
- * sio_judge. All five refuse as the judge does first, but 9: 8 (no bytes), 10 (not whole frames), 10 (a value out of range,
- * the mark of sio_plan_heal too), and then as said at each. A refusal leaves every number, plan, checksum and byte as it was.
+ * sio_judge. All five refuse as the judge does first, but 9: 8 (no bytes), 45 (more than 5,824 bytes), 10 (not whole frames),
+ * 10 (a value out of range, the mark of sio_plan_heal too), and then as said at each. A refusal leaves every number, plan,
+ * checksum and byte as it was.
  *
  * They say what to write, not whether: that is the protocol's. What a pair is, sio_decide says of the two parts of its frame,
  * and not the judge, whose Lost takes in Empty and Fork.
