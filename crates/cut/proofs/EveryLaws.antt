@@ -1,5 +1,5 @@
--- A property of every element of a list: the list taken apart at one of them, and put together.
-use Rattle.std.proofs.Common.{List, [], ◌∷◌, ◌++◌}
+-- A list taken apart at one of its elements: a property of every element, and another element in its place.
+use Rattle.std.proofs.Common.{◌≡◌, sym, ◌∙◌, List, [], ◌∷◌, ◌++◌, length, length-append}
 use Rattle.cut.specs.Store.{Every}
 
 pub every_split : {T : Type 0} {P : T → Type 0} (before : List T) (t : T) (behind : List T) → Every P (before ++ t ∷ behind)
@@ -11,3 +11,6 @@ pub every_join : {T : Type 0} {P : T → Type 0} {before : List T} {t : T} {behi
     → Every P (before ++ t ∷ behind)
 every_join Every.none here rest = Every.more here rest
 every_join (Every.more first all) here rest = Every.more first (every_join all here rest)
+
+pub same_length : {T : Type 0} (before : List T) (t u : T) (behind : List T) → length (before ++ t ∷ behind) ≡ length (before ++ u ∷ behind)
+same_length before t u behind = length-append before (t ∷ behind) ∙ sym (length-append before (u ∷ behind))

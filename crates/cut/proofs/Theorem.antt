@@ -1,6 +1,6 @@
 -- The cut theorem: every pair but the written one is as it was and rests, the written one's winner stands beside a slot that a crash
 -- explains, and so the judge's second pass changes nothing.
-use Rattle.std.proofs.Common.{◌≡◌, refl, sym, ap, subst, ◌∙◌, ◌⊎◌, inl, inr, Bool, true, false, ◌&&◌, cond, List, [], ◌∷◌, ◌++◌, ℕ, ◌*◌, ◌≤◌, ◌<◌, arith, length, take, length-append, Option, Some, None}
+use Rattle.std.proofs.Common.{◌≡◌, refl, sym, ap, subst, ◌∙◌, ◌⊎◌, inl, inr, Bool, true, false, ◌&&◌, cond, List, [], ◌∷◌, ◌++◌, ℕ, ◌*◌, ◌≤◌, ◌<◌, arith, length, take, Option, Some, None}
 use mathlib.Core.Bool.{and-false}
 use Rattle.slot.specs.Status.{other}
 use Rattle.slot.specs.Payload.{payload as payload_of}
@@ -16,7 +16,7 @@ use Rattle.judge.specs.declared.verdict.PairVerdict.{PairVerdict}
 use Rattle.cut.specs.Store.{Every, Slot, Pair, slot_at, shown, last_record, SoundPair, Sound}
 use Rattle.cut.specs.Cut.{Write, store, size, old, new, left, with_slot, after, next_number, Possible, CorrectWrite, whole, Accident, is_empty, handed, Survives, CutTheorem}
 use Rattle.cut.specs.Laws.{OlderSurvived}
-use Rattle.cut.proofs.EveryLaws.{every_split}
+use Rattle.cut.proofs.EveryLaws.{every_split, same_length}
 use Rattle.cut.proofs.StatusLaws.{false_true}
 use Rattle.cut.proofs.JudgeLaws.{Quiet, quiet_explained, Explained, Healed, healed}
 use Rattle.cut.proofs.FrameLaws.{PairTyped}
@@ -178,8 +178,8 @@ module _ (w : Write) (sound_before : Every SoundPair w.before) (sound : SoundPai
   healed_is _ Healed.none = inl refl
   healed_is _ (Healed.slot flight) = inr (ap (λ (index : SlotIndex). Some (length w.before, index)) (answer.flight flight))
 
-  same_length : length (store w) ≡ length (after w)
-  same_length = length-append w.before (w.pair ∷ w.behind) ∙ sym (length-append w.before (p ∷ w.behind))
+  as_many : length (store w) ≡ length (after w)
+  as_many = same_length w.before w.pair p w.behind
 
   survives : Survives w out
   survives =
@@ -187,7 +187,7 @@ module _ (w : Write) (sound_before : Every SoundPair w.before) (sound : SoundPai
         verdict = rested_verdicts rest_before ++ winner_beside answer.winner answer.verdict ∷ rested_verdicts rest_behind;
         judgement = judgement (shown (after w)) (handed w);
         judged = row_stands rest_before rest_behind p answer.explained answer.stands (handed w) unmarked answer.typed
-            (subst (λ (n : ℕ). n ≤ most_pairs) same_length few) out (room ∙ ap (λ (n : ℕ). n * verdict_width) same_length);
+            (subst (λ (n : ℕ). n ≤ most_pairs) as_many few) out (room ∙ ap (λ (n : ℕ). n * verdict_width) as_many);
         heal =
             healed_is (judgement (shown (after w)) (handed w)).heal
             (rw (heal_is rest_before rest_behind p answer.explained answer.stands (handed w) unmarked)
@@ -204,4 +204,4 @@ older_survived w sound few no_mark correct possible none out room =
 -- Nor does what sectors add to the accidents.
 pub cut_theorem : CutTheorem
 cut_theorem w sound few no_mark correct possible none out room =
-    older_survived w sound few no_mark correct possible (none_of_either w.tear none) out room
+    older_survived w sound (omega (arith, few)) no_mark correct possible (none_of_either w.tear none) out room

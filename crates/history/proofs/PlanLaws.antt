@@ -12,7 +12,7 @@ use Rattle.judge.specs.Frames.{verdict_width, pair_count, frames as frames_in, r
 use Rattle.judge.specs.Same.{frame_of}
 use Rattle.judge.specs.declared.pairs.Pair.{Pair as ShownPair}
 use Rattle.judge.specs.declared.verdict.JudgeError.{JudgeError}
-use Rattle.judge.specs.declared.verdict.Judgement.{Judgement}
+use Rattle.judge.proofs.RowLaws.{answered}
 use Rattle.judge.proofs.SameLaws.{row-is}
 use Rattle.cut.specs.Store.{Every, Pair, clean_mark, report, framed_pair, framed, shown, frames}
 use Rattle.cut.specs.Cut.{Tear, Write, store, next_number as next_number_of, CorrectWith, is_empty}
@@ -47,16 +47,12 @@ module _ (ps : List Pair) (typed : Every PairTyped ps) where
   not_refused : 1 ≤ length ps → length ps ≤ most_pairs → refusal (frames ps) 0 ≡ None
   unfolding judge_frames
   not_refused some few =
-      by_answer (refusal (frames ps) 0) (judgement (row (frames ps)) false) (judgement (shown ps) false)
-      (subst (λ (n : ℕ). unless (frames_error (frames ps) 0 n) (judgement (row (frames ps)) false) ≡ Ok (judgement (shown ps) false)) size
-      (judged_row ps some few false typed out (size ∙ ap (λ (n : ℕ). n * verdict_width) (count_frames ps))))
+      (answered (refusal (frames ps) 0) (judgement (row (frames ps)) false) (judgement (shown ps) false)
+      (sym (subst (λ (n : ℕ). unless (frames_error (frames ps) 0 n) (judgement (row (frames ps)) false) ≡ Ok (judgement (shown ps) false)) size
+      (judged_row ps some few false typed out (size ∙ ap (λ (n : ℕ). n * verdict_width) (count_frames ps)))))).0
     where
       size : length out ≡ pair_count (frames ps) * verdict_width
       size = length-replicate (pair_count (frames ps) * verdict_width) 0
-
-      by_answer : (e : Option JudgeError) (j k : Judgement) → unless e j ≡ Ok k → e ≡ None
-      by_answer None j k is = refl
-      by_answer (Some e) j k is = absurd cc
 
   row_shown : row (frames ps) ≡ shown ps
   row_shown = row-is (framed ps) (row_fits typed)

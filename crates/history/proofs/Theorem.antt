@@ -1,5 +1,5 @@
 -- The theorem over histories: each step leads from a state to the next, and the volume record's mark stays false.
-use Rattle.std.proofs.Common.{◌≡◌, refl, sym, ap, subst, ◌∙◌, true, false, List, [], ◌∷◌, ◌++◌, ℕ, zero, suc, ◌≤◌, arith, length, length-append, map}
+use Rattle.std.proofs.Common.{◌≡◌, refl, sym, ap, subst, ◌∙◌, true, false, List, [], ◌∷◌, ◌++◌, ℕ, zero, suc, ◌≤◌, arith, length, map}
 use Rattle.std.specs.List.{IsAmong}
 use Rattle.std.proofs.lemmas.List.{length-map}
 use Rattle.slot.specs.Write.{header_crc}
@@ -8,6 +8,7 @@ use Rattle.judge.specs.Judge.{most_pairs}
 use Rattle.judge.specs.declared.verdict.PairVerdict.{PairVerdict}
 use Rattle.cut.specs.Store.{Every, Pair, clean_mark, store_mark, Sound}
 use Rattle.cut.specs.Cut.{Write, new, left, is_empty}
+use Rattle.cut.proofs.EveryLaws.{same_length}
 use Rattle.cut.proofs.StatusLaws.{false_true}
 use Rattle.cut.proofs.StatementLaws.{one_payload}
 use Rattle.cut.proofs.Theorem.{sound_pairs}
@@ -29,11 +30,8 @@ reached_state (Reached.cut before t behind reached q allowed possible none) =
 
 -- ---- and the number of their pairs stays
 
-same_length : (before : List Tracked) (t u : Tracked) (behind : List Tracked) → length (before ++ t ∷ behind) ≡ length (before ++ u ∷ behind)
-same_length before t u behind = length-append before (t ∷ behind) ∙ sym (length-append before (u ∷ behind))
-
 pub reached_few : {ts : List Tracked} → Reached HarmfulAccident ts → length ts ≤ most_pairs
-reached_few (Reached.start {ps} sound few unmarked) = subst (λ (n : ℕ). n ≤ most_pairs) (sym (length-map ps started)) few
+reached_few (Reached.start {ps} sound few unmarked) = omega (arith, length-map ps started, few)
 reached_few (Reached.finish before t behind reached q allowed) =
     subst (λ (n : ℕ). n ≤ most_pairs) (same_length before t (finished (write_to before t behind q) t) behind) (reached_few reached)
 reached_few (Reached.cut before t behind reached q allowed possible none) =

@@ -1,8 +1,9 @@
 -- What the judge over frames answers is the judge's answer over their row, and its verdicts, four bytes each, are those bytes joined.
-use Rattle.std.proofs.Common.{◌≡◌, refl, ap, ◌∙◌, Bool, true, false, not, List, [], ◌∷◌, ◌++◌, ℕ, zero, suc, ◌+◌, ◌-◌, ◌*◌, ◌/◌, ◌%◌, ◌<◌, ◌≤◌, ◌&&◌, length, get_or, set, take, drop, map, flat_map, slice_get, arith, eqb, leb, ltb, eqb-true, eq-eqb, Some, None}
+use Rattle.std.proofs.Common.{◌≡◌, refl, ap, ◌∙◌, Bool, true, false, not, List, [], ◌∷◌, ◌++◌, ℕ, zero, suc, ◌+◌, ◌-◌, ◌*◌, ◌/◌, ◌%◌, ◌<◌, ◌≤◌, ◌&&◌, length, get_or, set, take, drop, map, flat_map, slice_get, arith, eqb, leb, ltb, eqb-true, eq-eqb, ne_eqb, lt-ltb, Some, None}
 use Rattle.std.specs.Int.{from_bool}
 use Rattle.std.specs.List.{list_all}
 use Rattle.judge.specs.declared.verdict.PairVerdict.{PairVerdict}
+use Rattle.judge.specs.declared.verdict.JudgeError.{JudgeError}
 use Rattle.judge.specs.Judge.{most_pairs, error}
 use Rattle.judge.specs.Frames.{frame_width, verdict_width, pair_count, pair_in_range, frames, verdict_bytes, verdict_from, verdict_cells, row_bytes, frames_error}
 
@@ -45,6 +46,13 @@ pub whole : (s : List ℕ) (clean room : ℕ) → length s % frame_width ≡ 0
     ≡ error (eqb (pair_count s) 0) (ltb most_pairs (pair_count s)) true (eqb room (pair_count s * verdict_width))
     (leb clean 1 && list_all pair_in_range (frames s))
 whole s clean room frames_are = by_row s clean room ∙ rw (eq-eqb (length s % frame_width) 0 frames_are)
+
+-- More bytes than the most pairs have are too many, whatever they hold.
+pub too_many : (s : List ℕ) (clean room : ℕ) → most_pairs * frame_width < length s → frames_error s clean room ≡ Some JudgeError.TooManyPairs
+unfolding frames_error
+too_many s clean room more =
+    let some : length s ≡ 0 → ⊥ = omega arith in
+    simp (ne_eqb (length s) 0 some, lt-ltb (most_pairs * frame_width) (length s) more)
 
 -- Without an error the pairs are as many as are judged.
 pub few : (s : List ℕ) (clean room : ℕ) → frames_error s clean room ≡ None → pair_count s ≤ most_pairs

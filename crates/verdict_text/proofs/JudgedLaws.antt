@@ -1,11 +1,12 @@
 -- A text as it is judged: refused by its length or by its lines, or by the judge of its frames.
-use Rattle.std.proofs.Common.{◌≡◌, refl, sym, ap, ap₂, ◌∙◌, Bool, true, false, ◌==◌, ℕ, ◌*◌, ◌≤◌, ◌<◌, arith, lt-ltb, ne_eqb, List, length, take, length-take-le, Option, Some, None, Ok, Err}
+use Rattle.std.proofs.Common.{◌≡◌, refl, sym, ap, ap₂, ◌∙◌, Bool, true, false, ◌==◌, ℕ, ◌*◌, ◌≤◌, ◌<◌, arith, List, length, take, length-take-le, Option, Some, None, Ok, Err}
 use Rattle.std.proofs.lemmas.List.{take_all}
 use Rattle.std.specs.Int.{from_bool}
 use Rattle.judge.specs.declared.verdict.Judgement.{Judgement}
 use Rattle.judge.specs.declared.verdict.JudgeError.{JudgeError}
 use Rattle.judge.specs.Judge.{most_pairs, verdicts, judgement, unless, left}
 use Rattle.judge.specs.Frames.{frame_width, verdict_width, pair_count, row, row_bytes, frames_error, judge_frames, frames_left}
+use Rattle.judge.proofs.FrameLaws.{too_many}
 use Rattle.verdict_text.specs.declared.answer.Refusal.{Refusal}
 use Rattle.verdict_text.specs.Read.{store_in}
 use Rattle.verdict_text.specs.Steps.{Holds}
@@ -33,12 +34,9 @@ module _ (buffer : List ℕ) (pairs : ℕ) (frames : List ℕ) (holds : Holds bu
   room_for verdicts room = omega (arith, holds.size, length-take-le (pairs * verdict_width) verdicts room)
 
   -- The judge refuses more than it judges.
-  pub too_many : (clean : Bool) → most_pairs < pairs → judged_frames clean frames ≡ Err (Refusal.Judge JudgeError.TooManyPairs)
-  unfolding frames_error
-  too_many clean many =
-      let some : length frames ≡ 0 → ⊥ = omega (arith, holds.size) in
-      let over : most_pairs * frame_width < length frames = omega (arith, holds.size) in
-      simp (ne_eqb (length frames) 0 some, lt-ltb (most_pairs * frame_width) (length frames) over)
+  pub more_refused : (clean : Bool) → most_pairs < pairs → judged_frames clean frames ≡ Err (Refusal.Judge JudgeError.TooManyPairs)
+  more_refused clean many =
+      rw (too_many frames (from_bool clean) (pair_count frames * verdict_width) (omega (arith, holds.size))) refl
 
 mark-back : (clean : Bool) → (from_bool clean == 1) ≡ clean
 mark-back true = refl

@@ -4,7 +4,7 @@ use Rattle.std.proofs.lemmas.List.{take_at}
 use Rattle.judge.specs.Judge.{most_pairs}
 use Rattle.judge.specs.Frames.{verdict_width}
 use Rattle.verdict_text.specs.Answer.{judged_store}
-use Rattle.verdict_text.proofs.JudgedLaws.{long_text, fitting_text, all_held, room_for, too_many, judged-ok, judged-error}
+use Rattle.verdict_text.proofs.JudgedLaws.{long_text, fitting_text, all_held, room_for, more_refused, judged-ok, judged-error}
 use Rattle.verdict_text.proofs.answer.judged.Goals as goal
 
 pub returns-then-is_long : goal.returns-then-is_long
@@ -17,7 +17,7 @@ pub returns-then-pairs-gt-MOST_PAIRS : goal.returns-then-pairs-gt-MOST_PAIRS
 returns-then-pairs-gt-MOST_PAIRS c =
     let found = c.in-Some.ensures in
     fitting_text _ _ (sym c.is_long.ensures ∙ c.if-is_long.false) ∙ ap judged_store found.1
-    ∙ too_many c.read_store.new.frames c.in-Some.pairs found.0 found.2 c.in-Some.clean (search rules)
+    ∙ more_refused c.read_store.new.frames c.in-Some.pairs found.0 found.2 c.in-Some.clean (search rules)
 
 pub returns-in-Ok : goal.returns-in-Ok
 returns-in-Ok c =
