@@ -9,11 +9,10 @@ use Rattle.judge.specs.declared.verdict.JudgeError.{JudgeError}
 use Rattle.judge.specs.declared.verdict.Judgement.{Judgement}
 use Rattle.plan.specs.declared.error.PlanError.{PlanError}
 use Rattle.plan.specs.declared.write.Plan.{Plan}
-use Rattle.plan.specs.Error.{unless_refused}
 use Rattle.plan.specs.Pairs.{frame_report}
 use Rattle.plan.specs.Plan.{followed, plan_at, some_plan}
 use Rattle.plan.specs.Heal.{place, with_pair, heal_in, heal_for, plan_heal, HealsTheNamed}
-use Rattle.plan.proofs.PlanLaws.{Has, plan_has}
+use Rattle.plan.proofs.PlanLaws.{given, Has, plan_has}
 
 -- What the judge answers where it answers.
 judged : (s : List ℕ) (clean : ℕ) (j : Judgement) → judge_frames s clean (pair_count s * verdict_width) ≡ Ok j
@@ -65,7 +64,7 @@ module _ (s : List ℕ) (clean : ℕ) where
   pub planned : (pair : ℕ) (plan : Plan) → plan_heal s clean ≡ Ok (Some (pair, plan))
       → (named ≡ Some (pair, plan.index)) × ((f : List ℕ) × Planned pair plan f)
   unfolding plan_heal
-  planned pair plan is = refused (refusal s clean) is
+  planned pair plan is = go named (given (refusal s clean) is).1
     where
       in_frame : (k : ℕ) (index : SlotIndex) (frame : Option (List ℕ)) → slice_get (frames s) k ≡ frame
           → heal_in frame k index (highest_other (place k index) (slots (row s))) ≡ Ok (Some (pair, plan))
@@ -89,22 +88,13 @@ module _ (s : List ℕ) (clean : ℕ) where
       go None is = absurd cc
       go (Some n) is = let known = in_frame n.0 n.1 (slice_get (frames s) n.0) refl is in (ap Some known.0, known.1)
 
-      refused : (e : Option JudgeError) → unless_refused e (heal_for s named) ≡ Ok (Some (pair, plan))
-          → (named ≡ Some (pair, plan.index)) × ((f : List ℕ) × Planned pair plan f)
-      refused None is = go named is
-      refused (Some e) is = absurd cc
-
   none_planned : plan_heal s clean ≡ Ok None → named ≡ None
   unfolding plan_heal
-  none_planned is = refused (refusal s clean) is
+  none_planned is = go named (given (refusal s clean) is).1
     where
       go : (n : Option (ℕ × SlotIndex)) → heal_for s n ≡ Ok None → n ≡ None
       go None is = refl
       go (Some n) is = absurd (not_none (slice_get (frames s) n.0) n.0 n.1 (highest_other (place n.0 n.1) (slots (row s))) is)
-
-      refused : (e : Option JudgeError) → unless_refused e (heal_for s named) ≡ Ok None → named ≡ None
-      refused None is = go named is
-      refused (Some e) is = absurd cc
 
 pub heals_the_named : HealsTheNamed
 heals_the_named =

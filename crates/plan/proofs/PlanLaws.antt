@@ -1,5 +1,5 @@
 -- What a plan has: the slot that `next_write` names, and one above the record before and above the highest number.
-use Rattle.std.proofs.Common.{◌≡◌, refl, sym, ap, subst, ◌∙◌, Bool, true, false, cond, List, ℕ, ◌+◌, ◌-◌, ◌*◌, ◌^◌, ◌<◌, ◌≤◌, arith, ltb, ltb-true, slice_get, Option, Some, None, Ok, Err}
+use Rattle.std.proofs.Common.{◌≡◌, refl, sym, ap, subst, ◌∙◌, Bool, true, false, cond, List, ℕ, ◌+◌, ◌-◌, ◌*◌, ◌^◌, ◌<◌, ◌≤◌, arith, ltb, ltb-true, slice_get, Option, Some, None, Result, Ok, Err}
 use Rattle.std.proofs.lemmas.Option.{some_pair_parts}
 use Rattle.slot.specs.Status.{other, info}
 use Rattle.slot.specs.declared.slot.SlotIndex.{SlotIndex}
@@ -10,32 +10,45 @@ use Rattle.pair.specs.declared.pair.Winner.{Winner}
 use Rattle.judge.specs.Numbers.{slots, highest}
 use Rattle.judge.specs.Judge.{most_pairs}
 use Rattle.judge.specs.Frames.{verdict_width, pair_count, frames, row, refusal}
-use Rattle.judge.proofs.FrameLaws.{few}
+use Rattle.judge.proofs.FrameLaws.{few, too_many}
 use Rattle.judge.specs.declared.verdict.JudgeError.{JudgeError}
 use Rattle.plan.specs.declared.error.PlanError.{PlanError}
 use Rattle.plan.specs.declared.write.Plan.{Plan}
 use Rattle.plan.specs.Error.{unless_refused}
+use Rattle.plan.specs.Numbers.{next_number, heal_number}
+use Rattle.plan.specs.Heal.{plan_heal}
+use Rattle.plan.specs.Next.{next_write as encoded_write}
+use Rattle.plan.specs.Promise.{MoreRefused}
 use Rattle.plan.specs.Pairs.{frame_report}
-use Rattle.plan.specs.Plan.{followed, some_plan, plan_next, plan_for, plan_write, NotTheWinner}
+use Rattle.plan.specs.Plan.{followed, some_plan, plan_next, plan_write, NotTheWinner}
+
+-- An answer is given where the judge does not refuse the frames.
+pub given : {A : Type 0} (e : Option JudgeError) {r : Result A PlanError} {x : A} → unless_refused e r ≡ Ok x → (e ≡ None) × (r ≡ Ok x)
+given None is = (refl, is)
+given (Some e) is = absurd cc
 
 pub planned_frame : (s f : List ℕ) (i : ℕ) (plan : Plan) → plan_write s i ≡ Ok (Some plan) → slice_get (frames s) i ≡ Some f
     → plan_next (next_write (frame_report f)) (followed (frame_report f)) (highest (slots (row s))) ≡ Ok (Some plan)
 unfolding plan_write
-planned_frame s f i plan is at = go (refusal s 0) is
-  where
-    go : (e : Option JudgeError) → unless_refused e (plan_for (slice_get (frames s) i) (highest (slots (row s)))) ≡ Ok (Some plan)
-        → plan_next (next_write (frame_report f)) (followed (frame_report f)) (highest (slots (row s))) ≡ Ok (Some plan)
-    go None is = rw at at is
-    go (Some e) is = absurd cc
+planned_frame s f i plan is at = rw at at (given (refusal s 0) is).1
 
 -- Where something is planned, the frames are of no more pairs than are judged.
 pub planned_few : (s : List ℕ) (i : ℕ) (plan : Plan) → plan_write s i ≡ Ok (Some plan) → pair_count s ≤ most_pairs
 unfolding plan_write
-planned_few s i plan is = few s 0 (pair_count s * verdict_width) (go (refusal s 0) is)
-  where
-    go : (e : Option JudgeError) → unless_refused e (plan_for (slice_get (frames s) i) (highest (slots (row s)))) ≡ Ok (Some plan) → e ≡ None
-    go None is = refl
-    go (Some e) is = absurd cc
+planned_few s i plan is = few s 0 (pair_count s * verdict_width) (given (refusal s 0) is).0
+
+-- Of more bytes than the most pairs have nothing is planned.
+pub more_refused : MoreRefused
+unfolding next_number heal_number plan_write plan_heal encoded_write
+more_refused s more =
+    let refused = λ (clean : ℕ). too_many s clean (pair_count s * verdict_width) (omega (arith, more)) in
+    record {
+      next = rw (refused 0);
+      above_winners = rw (refused 0);
+      plan = λ i. rw (refused 0);
+      heal = λ clean. rw (refused clean);
+      encoded = λ i a b owner compat payload out. rw (refused 0);
+    }
 
 -- ---- what a plan has
 

@@ -1,18 +1,35 @@
 -- What a planned write keeps: it is the cut theorem's correct write, the store survives where it is cut, and a write that is finished
--- leaves a sound store (docs/FORMAT.md, "What a correct write is").
-use Rattle.std.specs.Prelude.{◌≡◌, Bool, Option, Some, Result, Ok, true, false, List, ◌∷◌, ◌++◌, ℕ, ◌+◌, ◌*◌, ◌^◌, ◌≤◌, ◌<◌, length}
+-- leaves a sound store (docs/FORMAT.md, "What a correct write is"). Of more pairs than are judged none is planned.
+use Rattle.std.specs.Prelude.{◌≡◌, Bool, Option, Some, Result, Ok, Err, true, false, List, ◌∷◌, ◌++◌, ℕ, ◌+◌, ◌*◌, ◌^◌, ◌≤◌, ◌<◌, length}
 use Rattle.codec.specs.Bytes.{AllBytes}
 use Rattle.slot.specs.declared.slot.SlotIndex.{SlotIndex}
 use Rattle.slot.specs.declared.slot.SlotInfo.{SlotInfo}
 use Rattle.slot.specs.declared.slot.Expect.{Expect}
 use Rattle.pair.specs.Pair.{winner_info}
-use Rattle.judge.specs.Frames.{verdict_width}
+use Rattle.judge.specs.Judge.{most_pairs}
+use Rattle.judge.specs.Frames.{frame_width, verdict_width}
+use Rattle.judge.specs.declared.verdict.JudgeError.{JudgeError}
 use Rattle.cut.specs.Store.{Every, Pair, accepts, slot_at, report, frames, last_record, store_mark, SoundSlot, Sound}
 use Rattle.cut.specs.Cut.{Tear, Ascending, Sectors, Write, store, size, old, new, left, with_slot, CutPoint, Possible, CorrectWrite, Accident, SectorAccident, AccidentBy, Survives}
 use Rattle.plan.specs.declared.error.PlanError.{PlanError}
 use Rattle.plan.specs.declared.write.Plan.{Plan}
+use Rattle.plan.specs.Numbers.{next_number, heal_number}
 use Rattle.plan.specs.Plan.{plan_write}
-use Rattle.plan.specs.Next.{fields_of}
+use Rattle.plan.specs.Heal.{plan_heal}
+use Rattle.plan.specs.Next.{fields_of, next_write}
+
+-- All five functions refuse frames with this error of the judge, whatever else they are asked, and the buffer is kept.
+pub record AllRefuse (s : List ℕ) (error : JudgeError) : Type 0 where
+  pub next : next_number s ≡ Err (PlanError.Frames error)
+  pub above_winners : heal_number s ≡ Err (PlanError.Frames error)
+  pub plan : (i : ℕ) → plan_write s i ≡ Err (PlanError.Frames error)
+  pub heal : (clean : ℕ) → plan_heal s clean ≡ Err (PlanError.Frames error)
+  pub encoded : (i : ℕ) (a b : Expect) (owner compat : ℕ) (payload out : List ℕ)
+      → next_write s i a b owner compat payload out ≡ (out, Err (PlanError.Frames error))
+
+-- Of more bytes than the most pairs have nothing is numbered, planned or encoded.
+abbrev pub MoreRefused : Type 0
+MoreRefused = (s : List ℕ) → most_pairs * frame_width < length s → AllRefuse s JudgeError.TooManyPairs
 
 -- A pair whose slots are typed, and read as numbered in format 2.
 abbrev pub NumberedPair : Pair → Type 0

@@ -2,7 +2,7 @@
 ghost use Rattle.plan.specs.Numbers.{WinnersOfVerdicts};
 ghost use Rattle.plan.specs.Plan.{NotTheWinner};
 ghost use Rattle.plan.specs.Heal.{HealsTheNamed};
-ghost use Rattle.plan.specs.Promise.{PlannedIsCorrect, BothKindsSurvived, FinishedIsSound};
+ghost use Rattle.plan.specs.Promise.{MoreRefused, PlannedIsCorrect, BothKindsSurvived, FinishedIsSound};
 
 // Does nothing: its contract is that the winners whose numbers `heal_number` goes by are those of the judge's verdicts.
 #[tactic(auto, using(crate::proofs::WinnerLaws::winners_of_verdicts))]
@@ -19,6 +19,11 @@ pub fn slot_law()
 #[tactic(auto, using(crate::proofs::HealLaws::heals_the_named))]
 pub fn heal_law()
     ensures { HealsTheNamed }
+{}
+
+// Does nothing: its contract is that of more pairs than are judged nothing is numbered, planned or encoded.
+pub fn limit_law()
+    ensures { MoreRefused }
 {}
 
 // Does nothing: its contract is that a planned write is the cut theorem's correct write.
