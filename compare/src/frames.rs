@@ -2,10 +2,14 @@
 
 use crate::judge_reference::MOST_PAIRS;
 use crate::rng::Rng;
+use std::ops::RangeInclusive;
 
 /// The bytes of a pair, and of each slot in it.
 pub const FRAME: usize = 52;
 pub const HALF: usize = 26;
+
+/// Lengths of frames from a pair and a byte fewer than the most pairs have to as much more.
+pub const MOST_LENGTHS: RangeInclusive<usize> = (MOST_PAIRS - 1) * FRAME - 1..=(MOST_PAIRS + 1) * FRAME + 1;
 
 /// A slot's part of a frame.
 #[derive(Clone, Copy)]

@@ -1,8 +1,8 @@
 //! Every case of a small range of stores to judge.
 
 use crate::frames::{
-    packed, Cut, Pair, Slot, Store, BAD_HEADER, BAD_PAYLOAD, CUTS, FIRST, FORMS, FRAME, HALF, NUMBER_BELOW, SOUND_A,
-    SOUND_B, TORN_HEADER_B, VALID,
+    packed, Cut, Pair, Slot, Store, BAD_HEADER, BAD_PAYLOAD, CUTS, FIRST, FORMS, FRAME, HALF, MOST_LENGTHS,
+    NUMBER_BELOW, SOUND_A, SOUND_B, TORN_HEADER_B, VALID,
 };
 use crate::judge_reference::{MOST_PAIRS, VERDICT};
 use crate::judging::{compare, Call};
@@ -222,9 +222,8 @@ fn many_alike(run: &mut Run) -> Checked {
 /// Every length of frames about that of the most pairs, with verdicts of the right and of other lengths, good and bad marks, and values out
 /// of range.
 fn most_lengths(run: &mut Run) -> Checked {
-    let most = MOST_PAIRS * FRAME;
     let row = packed(&Store::random(&mut run.rng, MOST_PAIRS + 2).row);
-    for frames_len in most - FRAME - 1..=most + FRAME + 1 {
+    for frames_len in MOST_LENGTHS {
         for clean in [0, 1, 2] {
             for code in [row[0], VALID + 1] {
                 let mut frames = row[..frames_len].to_vec();

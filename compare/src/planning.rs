@@ -4,7 +4,7 @@ use crate::counts::{Answer, Function};
 use crate::faults::IMPOSSIBLE_LOG2S;
 use crate::ffi_pair::PairIdentity;
 use crate::ffi_plan::{self, Written};
-use crate::frames::{packed, random_row, Pair, Slot, BLANK, FIRST, FORMS, FRAME, HALF, SOUND_A, VALID};
+use crate::frames::{packed, random_row, Pair, Slot, BLANK, FIRST, FORMS, FRAME, HALF, MOST_LENGTHS, SOUND_A, VALID};
 use crate::judge_reference::MOST_PAIRS;
 use crate::lent::{Lent, LentCell};
 use crate::outcome::{answer, filled, Call, Expected, Held};
@@ -25,40 +25,26 @@ const SLOT_B: Answer = Answer::Decision("slot B");
 const FIRST_WRITE: Answer = Answer::Decision("first write");
 const NONE: Answer = Answer::Decision("none");
 
-const NUMBERS: &[Answer] =
-    &[Answer::Done, Answer::Refusal(8), Answer::Refusal(45), Answer::Refusal(10), Answer::Refusal(48)];
-const PLANS: &[Answer] = &[
-    SLOT_A,
-    SLOT_B,
-    FIRST_WRITE,
-    NONE,
-    Answer::Refusal(8),
-    Answer::Refusal(45),
-    Answer::Refusal(10),
-    Answer::Refusal(48),
-];
-const HEALS: &[Answer] =
-    &[SLOT_A, SLOT_B, NONE, Answer::Refusal(8), Answer::Refusal(45), Answer::Refusal(10), Answer::Refusal(48)];
-const WRITES: &[Answer] = &[
-    SLOT_A,
-    SLOT_B,
-    FIRST_WRITE,
-    NONE,
-    Answer::Refusal(8),
-    Answer::Refusal(45),
-    Answer::Refusal(10),
-    Answer::Refusal(48),
-    Answer::Refusal(1),
-    Answer::Refusal(2),
-    Answer::Refusal(3),
-];
+const NUMBERS: &[Answer] = &[Answer::Done];
+const PLANS: &[Answer] = &[SLOT_A, SLOT_B, FIRST_WRITE, NONE];
+const HEALS: &[Answer] = &[SLOT_A, SLOT_B, NONE];
+
+/// Of all five functions, and of the next write besides.
+const REFUSALS: &[Answer] = &[Answer::Refusal(8), Answer::Refusal(45), Answer::Refusal(10), Answer::Refusal(48)];
+const WRITES: &[Answer] = &[Answer::Refusal(1), Answer::Refusal(2), Answer::Refusal(3)];
 
 pub const PART: Part = Part {
     functions: &[
         Function::new(NEXT_NUMBER, NUMBERS),
+        Function::new(NEXT_NUMBER, REFUSALS),
         Function::new(HEAL_NUMBER, NUMBERS),
+        Function::new(HEAL_NUMBER, REFUSALS),
         Function::new(PLAN_WRITE, PLANS),
+        Function::new(PLAN_WRITE, REFUSALS),
         Function::new(PLAN_HEAL, HEALS),
+        Function::new(PLAN_HEAL, REFUSALS),
+        Function::new(NEXT_WRITE, PLANS),
+        Function::new(NEXT_WRITE, REFUSALS),
         Function::new(NEXT_WRITE, WRITES),
     ],
     sweep,
@@ -143,9 +129,8 @@ fn two_statuses(run: &mut Run) -> Checked {
 
 /// Every length of frames about that of the most pairs, with good and bad marks.
 fn most_lengths(run: &mut Run) -> Checked {
-    let most = MOST_PAIRS * FRAME;
     let row = vec![SOUND_A; MOST_PAIRS + 2];
-    for frames_len in most - FRAME - 1..=most + FRAME + 1 {
+    for frames_len in MOST_LENGTHS {
         for clean in [0, 2] {
             let mut asked = Asked::new(&row, clean, MOST_PAIRS - 1);
             asked.frames.truncate(frames_len);
