@@ -1,4 +1,4 @@
--- The cut theorem (docs/FORMAT.md, "The sound store and the cut"): a correct write to a sound store of as many pairs as are judged is cut,
+-- The cut theorem (docs/FORMAT.md, "The sound store and the cut"): a correct write to a sound store of no more pairs than are judged is cut,
 -- after k of its bytes or with some of its sectors. Unless an accident happened, every pair is judged Confirmed, the store is writable, no
 -- slot but the written one is healed, and every pair's last written record is read back: in the written pair the new one if and only if it
 -- stands whole.

@@ -157,7 +157,7 @@ torn_by w t = tracked w.index (left w) (past_after w (past w.index t)) (w.payloa
 
 -- The stores that a history leads to, in which none of these accidents happened.
 pub data Reached (Accident : Write → Past → SlotInfo → Type 0) : List Tracked → Type 0 where
-  -- A sound store of as many pairs as are judged, whose clean mark is false.
+  -- A sound store of no more pairs than are judged, whose clean mark is false.
   start : {ps : List Pair} → Sound ps → length ps ≤ most_pairs → store_mark ps ≡ false → Reached Accident (map started ps)
   -- A write that is finished.
   finish : (before : List Tracked) (t : Tracked) (behind : List Tracked) → Reached Accident (before ++ t ∷ behind)

@@ -71,7 +71,7 @@ pub record OnlyTheWritten : Type 0 where
 
 -- ---- the numbers
 
--- Over the frames of as many typed pairs as are judged, read in numbered format 2, `next_number` and `heal_number` answer the numbers of a
+-- Over the frames of typed pairs, no more than are judged, read in numbered format 2, `next_number` and `heal_number` answer the numbers of a
 -- history, as far as they are below 2^64.
 abbrev pub NumbersAnswered : Type 0
 NumbersAnswered =

@@ -54,7 +54,7 @@ too_many s clean room more =
     let some : length s ≡ 0 → ⊥ = omega arith in
     simp (ne_eqb (length s) 0 some, lt-ltb (most_pairs * frame_width) (length s) more)
 
--- Without an error the pairs are as many as are judged.
+-- Without an error there are no more pairs than are judged.
 pub few : (s : List ℕ) (clean room : ℕ) → frames_error s clean room ≡ None → pair_count s ≤ most_pairs
 unfolding frames_error
 few s clean room none = grind (arith, none)
