@@ -13,7 +13,7 @@ use Rattle.pair.specs.Winner.{read_pair, WinnerPart}
 use Rattle.judge.specs.Pairs.{numbered, valid, is_unsupported, opposite, pair_case}
 use Rattle.judge.specs.Numbers.{number}
 use Rattle.judge.specs.Verdict.{winner_beside, pair_verdict}
-use Rattle.judge.specs.Part.{version_of_info, version_of_header}
+use Rattle.judge.specs.Part.{version_of_info}
 use Rattle.judge.specs.Records.{shown_read, pair_read}
 use Rattle.judge.specs.declared.pairs.Shown.{Shown}
 use Rattle.judge.specs.declared.pairs.Pair.{Pair as ShownPair}
@@ -176,8 +176,8 @@ module _ (p : Pair) (w : SlotIndex) (i : SlotInfo) (valid_is : status (slot_at w
   module _ (crc : ℕ) (n : NumberedHeader) (second : status (slot_at (other w) p) ≡ SlotStatus.BadPayloadCrc)
       (known : header_facts (slot_at (other w) p).bytes (slot_at (other w) p).expect ≡ Some (record { stored_header_crc32c = crc; numbered = Some n })) where
     torn_case : pair_case (shown_pair p)
-        ≡ PairCase.Won w (opposite w (version_of_info i) (Shown.BadPayload (version_of_header crc (Some n))))
-    torn_case = case_beside p w i (Shown.BadPayload (version_of_header crc (Some n))) valid_is (simp (second, known)) refl refl
+        ≡ PairCase.Won w (opposite w (version_of_info i) (Shown.BadPayload n))
+    torn_case = case_beside p w i (Shown.BadPayload n) valid_is (simp (second, known)) refl refl
 
     torn_won : winner_info (report p) ≡ Some (w, i)
     torn_won = won_alone p w i SlotStatus.BadPayloadCrc valid_is second refl refl refl

@@ -2,6 +2,7 @@
 -- opposite the winner.
 use Rattle.std.specs.Prelude.{Bool, true, false, ◌&&◌, ◌||◌, ℕ, ◌+◌, ◌==◌, nat_lt, nat_le, if◌then◌else◌, Option, Some, None}
 use Rattle.slot.specs.declared.slot.SlotIndex.{SlotIndex}
+use Rattle.slot.specs.declared.slot.NumberedHeader.{NumberedHeader}
 use Rattle.judge.specs.declared.pairs.Version.{Version}
 use Rattle.judge.specs.declared.pairs.Shown.{Shown}
 use Rattle.judge.specs.declared.pairs.Pair.{Pair}
@@ -12,17 +13,17 @@ use Rattle.judge.specs.declared.pairs.PairCase.{PairCase}
 -- Of another header the number may be a mixture of two writes.
 abbrev pub numbered : Shown → Option ℕ
 numbered (Shown.Valid v) = Some v.meta_seq
-numbered (Shown.BadPayload v) = Some v.meta_seq
+numbered (Shown.BadPayload n) = Some n.meta_seq
 numbered _ = None
 
 -- ---- the slot opposite the one Valid slot, which is the winner's at the index
 
 -- A payload that fails: an older generation, or the next one with the winner's checksum as its previous one.
 -- The latter is what a write leaves that was cut in its payload. No power cut leaves another header there.
-abbrev pub bad_payload : Version → Version → Opposite
-bad_payload winner v =
-    if nat_lt v.generation winner.generation then Opposite.OlderDamaged
-    else if (v.generation == winner.generation + 1) && (v.prev_header_crc32c == winner.header_crc32c) then Opposite.Candidate (Some v.meta_seq)
+abbrev pub bad_payload : Version → NumberedHeader → Opposite
+bad_payload winner n =
+    if nat_lt n.generation winner.generation then Opposite.OlderDamaged
+    else if (n.generation == winner.generation + 1) && (n.prev_header_crc32c == winner.header_crc32c) then Opposite.Candidate (Some n.meta_seq)
     else Opposite.Damage
 
 -- A header that fails: the stored checksum of the winner's predecessor, or any other one.
@@ -39,7 +40,7 @@ blank SlotIndex.A winner = if winner.generation == 1 then Opposite.Nothing else 
 blank SlotIndex.B winner = Opposite.Damage
 
 abbrev pub opposite : SlotIndex → Version → Shown → Opposite
-opposite index winner (Shown.BadPayload v) = bad_payload winner v
+opposite index winner (Shown.BadPayload n) = bad_payload winner n
 opposite index winner (Shown.BadHeader stored) = bad_header winner stored
 opposite index winner Shown.Blank = blank index winner
 opposite index winner _ = Opposite.Damage

@@ -43,6 +43,10 @@ info_of v =
       payload_len = 0;
     }
 
+-- As much of it as a header shows without its payload.
+abbrev pub numbered_of : Version → NumberedHeader
+numbered_of v = record { generation = v.generation; meta_seq = v.meta_seq; prev_header_crc32c = v.prev_header_crc32c }
+
 abbrev pub version_of_header : ℕ → Option NumberedHeader → Version
 version_of_header stored None = record { generation = 0; meta_seq = 0; header_crc32c = stored; prev_header_crc32c = 0 }
 version_of_header stored (Some n) =
@@ -111,7 +115,7 @@ is_in_range p = is_some (part_status p) && nat_le p.facts 2
 -- By the status, beside these facts and fields.
 abbrev pub shown_beside : ℕ → Version → SlotStatus → Shown
 shown_beside facts v (SlotStatus.Valid i) = Shown.Valid v
-shown_beside facts v SlotStatus.BadPayloadCrc = if facts == 2 then Shown.BadPayload v else Shown.Other
+shown_beside facts v SlotStatus.BadPayloadCrc = if facts == 2 then Shown.BadPayload (numbered_of v) else Shown.Other
 shown_beside facts v SlotStatus.BadHeaderCrc = if nat_le 1 facts then Shown.BadHeader v.header_crc32c else Shown.Other
 shown_beside facts v SlotStatus.Blank = Shown.Blank
 shown_beside facts v (SlotStatus.UnsupportedVersion major) = Shown.Unsupported

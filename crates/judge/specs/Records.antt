@@ -10,18 +10,18 @@ use Rattle.judge.specs.declared.verdict.Judgement.{Judgement}
 use Rattle.judge.specs.declared.verdict.JudgeError.{JudgeError}
 use Rattle.judge.specs.declared.records.SlotRead.{SlotRead}
 use Rattle.judge.specs.declared.records.PairRead.{PairRead}
-use Rattle.judge.specs.Part.{version_of_info, version_of_header}
+use Rattle.judge.specs.Part.{version_of_info}
 use Rattle.judge.specs.Judge.{verdicts, judgement, most_pairs, error, unless, left}
 
 -- ---- what the judge is told of a slot, and of a pair
 
-abbrev pub payload_shown : ℕ → Option NumberedHeader → Shown
-payload_shown stored None = Shown.Other
-payload_shown stored (Some n) = Shown.BadPayload (version_of_header stored (Some n))
+abbrev pub payload_shown : Option NumberedHeader → Shown
+payload_shown None = Shown.Other
+payload_shown (Some n) = Shown.BadPayload n
 
 abbrev pub shown_of : SlotStatus → Option HeaderFacts → Shown
 shown_of (SlotStatus.Valid i) f = Shown.Valid (version_of_info i)
-shown_of SlotStatus.BadPayloadCrc (Some f) = payload_shown f.stored_header_crc32c f.numbered
+shown_of SlotStatus.BadPayloadCrc (Some f) = payload_shown f.numbered
 shown_of SlotStatus.BadHeaderCrc (Some f) = Shown.BadHeader f.stored_header_crc32c
 shown_of SlotStatus.Blank f = Shown.Blank
 shown_of (SlotStatus.UnsupportedVersion major) f = Shown.Unsupported

@@ -2,6 +2,7 @@
 -- that count up show each field's place and width.
 use Rattle.std.specs.Prelude.{◌≡◌, ℕ, [], ◌∷◌, map}
 use Rattle.slot.specs.Table.{count}
+use Rattle.slot.specs.declared.slot.NumberedHeader.{NumberedHeader}
 use Rattle.judge.specs.declared.pairs.Version.{Version}
 use Rattle.judge.specs.declared.pairs.Shown.{Shown}
 use Rattle.judge.specs.declared.verdict.SlotVerdict.{SlotVerdict}
@@ -29,6 +30,10 @@ counted_on =
       prev_header_crc32c = 0x3332_3130;
     }
 
+-- As much of the first as a header shows without its payload.
+abbrev pub counted_header : NumberedHeader
+counted_header = record { generation = 0x0908_0706_0504_0302; meta_seq = 0x1110_0F0E_0D0C_0B0A; prev_header_crc32c = 0x1918_1716 }
+
 -- What each status shows beside facts 2.
 abbrev pub shown_by : ℕ → Shown
 shown_by c = part_shown (record { code = c; facts = 2; version = counted })
@@ -45,4 +50,4 @@ pub record Table : Type 0 where
   pub shown :
       map shown_by (0 ∷ 1 ∷ 2 ∷ 3 ∷ 4 ∷ 5 ∷ 6 ∷ 7 ∷ 8 ∷ 9 ∷ 10 ∷ 11 ∷ 12 ∷ [])
       ≡ Shown.Other ∷ Shown.Other ∷ Shown.Blank ∷ Shown.Other ∷ Shown.BadHeader 0x1514_1312 ∷ Shown.Unsupported ∷ Shown.Unsupported ∷ Shown.Other
-      ∷ Shown.Other ∷ Shown.Other ∷ Shown.Other ∷ Shown.BadPayload counted ∷ Shown.Valid counted ∷ []
+      ∷ Shown.Other ∷ Shown.Other ∷ Shown.Other ∷ Shown.BadPayload counted_header ∷ Shown.Valid counted ∷ []

@@ -4,7 +4,7 @@ ghost use Rattle.judge.specs.Pairs.{numbered, opposite, pair_case, has_candidate
 ghost use Rattle.judge.specs.Numbers.{number};
 ghost use Rattle.judge.specs.Verdict.{by_index};
 
-use slot::slot::SlotIndex;
+use slot::slot::{NumberedHeader, SlotIndex};
 
 // The numbers of a slot whose header passed every check.
 #[derive(Clone, Copy)]
@@ -20,7 +20,7 @@ pub struct Version {
 pub enum Shown {
     Valid(Version),
     // The header passes every check, the payload fails its checksum.
-    BadPayload(Version),
+    BadPayload(NumberedHeader),
     // The header fails its checksum, which is stored.
     BadHeader(u32),
     Blank,
@@ -65,7 +65,8 @@ impl Shown {
         ensures { result ≡ numbered self }
     {
         match self {
-            Shown::Valid(v) | Shown::BadPayload(v) => Some(v.meta_seq),
+            Shown::Valid(v) => Some(v.meta_seq),
+            Shown::BadPayload(n) => Some(n.meta_seq),
             _ => None,
         }
     }
@@ -84,10 +85,10 @@ impl Shown {
         let g = winner.generation;
         match (self, index) {
             (Shown::Blank, SlotIndex::A) if g == 1 => Opposite::Nothing,
-            (Shown::BadPayload(v), _) if v.generation < g => Opposite::OlderDamaged,
-            (Shown::BadPayload(v), _)
-                if v.generation - g == 1 && v.prev_header_crc32c == winner.header_crc32c => {
-                Opposite::Candidate(Some(v.meta_seq))
+            (Shown::BadPayload(n), _) if n.generation < g => Opposite::OlderDamaged,
+            (Shown::BadPayload(n), _)
+                if n.generation - g == 1 && n.prev_header_crc32c == winner.header_crc32c => {
+                Opposite::Candidate(Some(n.meta_seq))
             }
             (Shown::BadHeader(stored), _) if g >= 2 && stored == winner.prev_header_crc32c => {
                 Opposite::OlderDamaged

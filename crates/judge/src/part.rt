@@ -11,10 +11,10 @@
 //
 // Fields come from the Valid info under status 12, else from the facts; those not given are zero.
 ghost use Rattle.std.specs.Prelude.{◌≡◌, ◌+◌, ◌≤◌, length, take, drop};
-ghost use Rattle.judge.specs.Part.{part_width, version_of_info, info_of, version_of_facts, facts_number, part_of, part_bytes, part_at, part_status, part_shown, is_in_range};
+ghost use Rattle.judge.specs.Part.{part_width, version_of_info, info_of, numbered_of, version_of_facts, facts_number, part_of, part_bytes, part_at, part_status, part_shown, is_in_range};
 
 use crate::pairs::{Shown, Version};
-use slot::slot::{HeaderFacts, SlotInfo, SlotStatus};
+use slot::slot::{HeaderFacts, NumberedHeader, SlotInfo, SlotStatus};
 
 /// The width of a slot's part.
 pub const PART: usize = 26;
@@ -54,6 +54,17 @@ impl Version {
             meta_seq: self.meta_seq,
             payload_start: 0,
             payload_len: 0,
+        }
+    }
+
+    // As much of it as a header shows without its payload.
+    pub fn numbered(self) -> NumberedHeader
+        ensures { result ≡ numbered_of self }
+    {
+        NumberedHeader {
+            generation: self.generation,
+            meta_seq: self.meta_seq,
+            prev_header_crc32c: self.prev_header_crc32c,
         }
     }
 
@@ -172,7 +183,7 @@ impl SlotPart {
     {
         match (self.status(), self.facts) {
             (Some(SlotStatus::Valid(_)), _) => Shown::Valid(self.version),
-            (Some(SlotStatus::BadPayloadCrc), 2) => Shown::BadPayload(self.version),
+            (Some(SlotStatus::BadPayloadCrc), 2) => Shown::BadPayload(self.version.numbered()),
             (Some(SlotStatus::BadHeaderCrc), 1..) => Shown::BadHeader(self.version.header_crc32c),
             (Some(SlotStatus::Blank), _) => Shown::Blank,
             (Some(SlotStatus::UnsupportedVersion { .. } | SlotStatus::Incompatible { .. }), _) =>

@@ -34,11 +34,11 @@ impl SlotRead {
                 SlotStatus::BadPayloadCrc,
                 Some(
                     HeaderFacts {
-                        numbered: Some(_),
+                        numbered: Some(n),
                         ..
                     },
                 ),
-            ) => Shown::BadPayload(Version::of_facts(self.facts)),
+            ) => Shown::BadPayload(n),
             (SlotStatus::BadHeaderCrc, Some(facts)) => Shown::BadHeader(facts.stored_header_crc32c),
             (SlotStatus::Blank, _) => Shown::Blank,
             (SlotStatus::UnsupportedVersion { .. } | SlotStatus::Incompatible { .. }, _) => {

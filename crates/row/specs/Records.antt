@@ -6,7 +6,7 @@ use Rattle.slot.specs.declared.slot.SlotStatus.{SlotStatus}
 use Rattle.judge.specs.declared.part.SlotPart.{SlotPart}
 use Rattle.judge.specs.declared.records.SlotRead.{SlotRead}
 use Rattle.judge.specs.declared.records.PairRead.{PairRead}
-use Rattle.judge.specs.Part.{part_width, part_at, part_status}
+use Rattle.judge.specs.Part.{part_width, numbered_of, part_at, part_status}
 
 -- A number that is no status stands for a slot that was not read.
 abbrev pub status_from : SlotPart → SlotStatus
@@ -16,16 +16,7 @@ abbrev pub facts_from : SlotPart → Option HeaderFacts
 facts_from p =
     if p.facts == 1 then Some (record { stored_header_crc32c = p.version.header_crc32c; numbered = None })
     else if p.facts == 2 then
-    Some
-    (record {
-      stored_header_crc32c = p.version.header_crc32c;
-      numbered =
-          Some (record {
-            generation = p.version.generation;
-            meta_seq = p.version.meta_seq;
-            prev_header_crc32c = p.version.prev_header_crc32c;
-          });
-    })
+    Some (record { stored_header_crc32c = p.version.header_crc32c; numbered = Some (numbered_of p.version) })
     else None
 
 abbrev pub slot_of : SlotPart → SlotRead

@@ -10,7 +10,7 @@ use judge::frames::{FRAME, VERDICT, parts};
 use judge::part::SlotPart;
 use judge::records::{PairRead, SlotRead};
 use judge::verdict::{JudgeError, Judgement, PairVerdict};
-use slot::slot::{HeaderFacts, NumberedHeader, SlotStatus};
+use slot::slot::{HeaderFacts, SlotStatus};
 
 // ---- the record of a frame
 
@@ -34,11 +34,7 @@ fn facts_from(part: SlotPart) -> Option<HeaderFacts>
         }),
         2 => Some(HeaderFacts {
             stored_header_crc32c: v.header_crc32c,
-            numbered: Some(NumberedHeader {
-                generation: v.generation,
-                meta_seq: v.meta_seq,
-                prev_header_crc32c: v.prev_header_crc32c,
-            }),
+            numbered: Some(v.numbered()),
         }),
         _ => None,
     }
