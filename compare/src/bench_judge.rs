@@ -4,7 +4,7 @@ use crate::bench::{cells, Contestant, Table, OURS};
 use crate::ffi;
 use crate::frames::{packed, Cut, Store};
 use crate::judge::{judge, Judgement, PairRead, PairVerdict};
-use crate::judge_reference::{decode, judgement_numbers, verdict_bytes, MOST_PAIRS, NOT_JUDGED, NOT_READ, VERDICT};
+use crate::judge_reference::{decode, judgement_numbers, verdict_bytes, JUDGEMENT, MOST_PAIRS, NOT_JUDGED, NOT_READ, VERDICT};
 use crate::rng::Rng;
 use crate::slot::SlotInfo;
 use crate::slot_reference::some_info;
@@ -70,7 +70,7 @@ fn input(store: &Store) -> Input {
 }
 
 /// The judgement in one number, or 0 where it is refused.
-fn answer([slot, pair, writable, clean, refused]: [u64; 5]) -> u64 {
+fn answer([slot, pair, writable, clean, refused]: [u64; JUDGEMENT]) -> u64 {
     pair << 8 | slot << 4 | writable << 2 | clean << 1 | refused
 }
 
@@ -95,7 +95,7 @@ fn decode_and_judge(input: &mut Input) -> u64 {
 }
 
 fn our_judge(input: &mut Input) -> u64 {
-    let judgement = Cell::new([0; 5]);
+    let judgement = Cell::new([0; JUDGEMENT]);
     ffi::judge(cells(&mut input.frames), CLEAN, cells(&mut input.verdict_bytes), &judgement);
     answer(judgement.get())
 }

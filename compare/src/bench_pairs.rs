@@ -4,6 +4,7 @@ use crate::bench::{cells, random_bytes, Contestant, Table, AS_IT_PICKS, OURS, PO
 use crate::bench_slots::portable_expect;
 use crate::ffi::{self, Version};
 use crate::ffi_pair::{self, Answered, PairIdentity};
+use crate::frames::{Slot, HALF};
 use crate::pair;
 use crate::portable::pair as portable_pair;
 use crate::portable::slot as portable_slot;
@@ -99,10 +100,10 @@ fn portable_both(input: &mut Input) -> u64 {
 }
 
 fn our_part(input: &mut Input) -> u64 {
-    let part = Cell::new([0; 26]);
+    let part = Cell::new([0; HALF]);
     ffi::frame_slot(cells(&mut input.b), &input.at.slot(1), NUMBERED, &part);
     let part = part.get();
-    u32::from_le_bytes([part[18], part[19], part[20], part[21]]).into()
+    Slot::read(&part).own.into()
 }
 
 fn place(slot: &[u8], part: &[u8]) -> u64 {

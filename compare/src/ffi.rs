@@ -3,6 +3,8 @@
 //!
 //! Buffers and numbers are lent as `Cell`s: a wrong callee may write to any of them.
 
+use crate::frames::HALF;
+use crate::judge_reference::JUDGEMENT;
 use std::cell::Cell;
 
 /// The version of the interface that is called here.
@@ -86,7 +88,7 @@ extern "C" {
         log2_slot_size: u8,
         format_major: u16,
         numbered: u32,
-        part: *mut [u8; 26],
+        part: *mut [u8; HALF],
     ) -> u32;
 
     fn sio_decide(
@@ -107,7 +109,7 @@ extern "C" {
         clean: u8,
         verdicts: *mut u8,
         verdicts_len: usize,
-        judgement: *mut [u64; 5],
+        judgement: *mut [u64; JUDGEMENT],
     ) -> u32;
 }
 
@@ -283,7 +285,7 @@ pub fn header_facts(slot: &Bytes, at: &Identity, numbered: u32, found: &Cell<[u6
     }
 }
 
-pub fn frame_slot(slot: &Bytes, at: &Identity, numbered: u32, part: &Cell<[u8; 26]>) -> u32 {
+pub fn frame_slot(slot: &Bytes, at: &Identity, numbered: u32, part: &Cell<[u8; HALF]>) -> u32 {
     unsafe {
         sio_frame_slot(
             address(slot),
@@ -317,6 +319,6 @@ pub fn decide(a: &Side, b: &Side, report: &Cell<[u8; 5]>) -> u32 {
     }
 }
 
-pub fn judge(frames: &Bytes, clean: u8, verdicts: &Bytes, judgement: &Cell<[u64; 5]>) -> u32 {
+pub fn judge(frames: &Bytes, clean: u8, verdicts: &Bytes, judgement: &Cell<[u64; JUDGEMENT]>) -> u32 {
     unsafe { sio_judge(address(frames), frames.len(), clean, address(verdicts), verdicts.len(), judgement.as_ptr()) }
 }

@@ -26,6 +26,20 @@ pub struct Slot {
 pub type Pair = [Slot; 2];
 
 impl Slot {
+    /// From the start of these bytes.
+    #[inline(always)]
+    pub fn read(part: &[u8]) -> Self {
+        let part: &[u8; HALF] = part.first_chunk().expect("the bytes of a part");
+        Self {
+            code: part[0],
+            facts: part[1],
+            generation: u64::from_le_bytes(field(part, 2)),
+            number: u64::from_le_bytes(field(part, 10)),
+            own: u32::from_le_bytes(field(part, 18)),
+            previous: u32::from_le_bytes(field(part, 22)),
+        }
+    }
+
     pub fn packed(&self) -> [u8; HALF] {
         let mut part = [0; HALF];
         part[0] = self.code;
@@ -36,6 +50,11 @@ impl Slot {
         part[22..].copy_from_slice(&self.previous.to_le_bytes());
         part
     }
+}
+
+#[inline(always)]
+fn field<const N: usize>(part: &[u8; HALF], at: usize) -> [u8; N] {
+    std::array::from_fn(|i| part[at + i])
 }
 
 pub fn packed(row: &[Pair]) -> Vec<u8> {

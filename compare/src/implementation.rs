@@ -5,7 +5,7 @@ use crate::ffi::{self, Identity, Version};
 use crate::ffi_pair::{self, Answered, PairIdentity};
 use crate::ffi_plan;
 use crate::frames::{FRAME, HALF};
-use crate::judge_reference::VERDICT;
+use crate::judge_reference::{JUDGEMENT, VERDICT};
 use crate::outcome::Expected;
 use std::cell::Cell;
 
@@ -29,7 +29,7 @@ pub trait Implementation {
 pub struct Judged {
     pub refusal: u32,
     pub verdicts: Vec<u8>,
-    pub judgement: [u64; 5],
+    pub judgement: [u64; JUDGEMENT],
 }
 
 /// The slot that wins, 0 for none, the place of its payload, and the statuses and the decision that led to it.
@@ -78,7 +78,7 @@ impl Implementation for Library {
 
     fn judge(&self, frames: &[u8], clean: bool) -> Judged {
         let verdicts = cells(&vec![0xee; frames.len() / FRAME * VERDICT]);
-        let judgement = Cell::new([u64::MAX; 5]);
+        let judgement = Cell::new([u64::MAX; JUDGEMENT]);
         let refusal = ffi::judge(&cells(frames), clean.into(), &verdicts, &judgement);
         Judged { refusal, verdicts: bytes(&verdicts), judgement: judgement.get() }
     }

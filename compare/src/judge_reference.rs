@@ -5,7 +5,7 @@
 use super::judge::{self, JudgeError, Judgement, PairRead, PairVerdict, SlotRead, SlotVerdict, Standing};
 use super::slot::{HeaderFacts, NumberedHeader, SlotInfo, SlotStatus};
 use super::slot_reference::{index_number, some_info};
-use crate::frames::{FRAME, HALF};
+use crate::frames::{Slot, FRAME, HALF};
 
 pub const NO_PAIR: u32 = 8;
 pub const VERDICTS_LEN: u32 = 9;
@@ -15,12 +15,13 @@ pub const TOO_MANY_PAIRS: u32 = 45;
 /// The most pairs of a judgement.
 pub const MOST_PAIRS: usize = 112;
 
-/// The bytes of a pair's verdict.
+/// The bytes of a pair's verdict, and the numbers of a judgement.
 pub const VERDICT: usize = 4;
+pub const JUDGEMENT: usize = 5;
 
 pub struct Judged {
     pub verdicts: Vec<u8>,
-    pub judgement: [u64; 5],
+    pub judgement: [u64; JUDGEMENT],
 }
 
 /// The verdicts and the judgement, or the number of a refusal. The reference has the numbers 8 and 9 only, and judges any number of pairs.
@@ -82,28 +83,24 @@ pub const NOT_READ: PairRead = PairRead {
 #[inline(never)]
 pub fn decode(some_info: &SlotInfo, frames: &[u8], pairs: &mut [PairRead]) -> bool {
     for (frame, pair) in frames.chunks_exact(FRAME).zip(pairs) {
-        let (a, b) = frame.split_at(HALF);
-        let (Some(a), Some(b)) = (slot_read(some_info, a), slot_read(some_info, b)) else { return false };
+        let slot = |at: usize| slot_read(some_info, Slot::read(&frame[at..]));
+        let (Some(a), Some(b)) = (slot(0), slot(HALF)) else { return false };
         *pair = PairRead { a, b };
     }
     true
 }
 
 #[inline(always)]
-fn slot_read(some_info: &SlotInfo, half: &[u8]) -> Option<SlotRead> {
-    let half: &[u8; HALF] = half.try_into().ok()?;
-    let generation = u64::from_le_bytes(field(half, 2));
-    let meta_seq = u64::from_le_bytes(field(half, 10));
-    let own = u32::from_le_bytes(field(half, 18));
-    let prev_header_crc32c = u32::from_le_bytes(field(half, 22));
+fn slot_read(some_info: &SlotInfo, part: Slot) -> Option<SlotRead> {
+    let Slot { generation, number: meta_seq, own, previous: prev_header_crc32c, .. } = part;
     let numbered = NumberedHeader { generation, meta_seq, prev_header_crc32c };
-    let facts = match half[1] {
+    let facts = match part.facts {
         0 => None,
         1 => Some(HeaderFacts { stored_header_crc32c: own, numbered: None }),
         2 => Some(HeaderFacts { stored_header_crc32c: own, numbered: Some(numbered) }),
         _ => return None,
     };
-    let status = match half[0] {
+    let status = match part.code {
         0 => SlotStatus::ReadError,
         1 => SlotStatus::BadLength,
         2 => SlotStatus::Blank,
@@ -129,17 +126,12 @@ fn slot_read(some_info: &SlotInfo, half: &[u8]) -> Option<SlotRead> {
     Some(SlotRead { status, facts })
 }
 
-#[inline(always)]
-fn field<const N: usize>(half: &[u8; HALF], at: usize) -> [u8; N] {
-    std::array::from_fn(|i| half[at + i])
-}
-
 /// The enums' cases are in the order of their numbers.
 pub fn verdict_bytes(verdict: &PairVerdict) -> [u8; VERDICT] {
     [verdict.standing as u8, verdict.winner.map_or(0, index_number), verdict.a as u8, verdict.b as u8]
 }
 
-pub fn judgement_numbers(judgement: &Judgement) -> [u64; 5] {
+pub fn judgement_numbers(judgement: &Judgement) -> [u64; JUDGEMENT] {
     let (pair, slot) = judgement.heal.map_or((0, 0), |(pair, index)| (pair as u64, index_number(index).into()));
     [slot, pair, judgement.writable.into(), judgement.clean.into(), judgement.refused.into()]
 }

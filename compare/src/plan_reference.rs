@@ -61,23 +61,11 @@ fn read(frames: &[u8], clean: u8) -> Result<Vec<[Slot; 2]>, u32> {
     if frames.len() % FRAME != 0 {
         return Err(BAD_FRAMES);
     }
-    let row: Vec<[Slot; 2]> = frames.chunks(FRAME).map(|frame| [slot(&frame[..HALF]), slot(&frame[HALF..])]).collect();
+    let row: Vec<[Slot; 2]> = frames.chunks(FRAME).map(|frame| [0, HALF].map(|at| Slot::read(&frame[at..]))).collect();
     if clean > 1 || row.iter().flatten().any(|slot| slot.code > VALID || slot.facts > 2) {
         return Err(BAD_FRAMES);
     }
     Ok(row)
-}
-
-fn slot(part: &[u8]) -> Slot {
-    let number = |from: usize, to: usize| part[from..to].iter().rev().fold(0, |sum, byte| sum << 8 | u64::from(*byte));
-    Slot {
-        code: part[0],
-        facts: part[1],
-        generation: number(2, 10),
-        number: number(10, 18),
-        own: number(18, 22) as u32,
-        previous: number(22, 26) as u32,
-    }
 }
 
 /// Valid slots are numbered, and those whose payload alone fails.

@@ -6,6 +6,7 @@ use super::pair::{self, PairReport, Winner};
 use super::slot::{self, EncodeError, Expect, HeaderFacts, SlotFields, SlotIndex, SlotInfo, SlotStatus};
 use crate::ffi::{Identity, Side, Version};
 use crate::ffi_pair::PairIdentity;
+use crate::frames::{Slot, HALF};
 
 /// The answer to an encoding: the checksum where it was not refused; the bytes are in the buffer.
 pub struct Encoded {
@@ -142,21 +143,22 @@ pub fn header_facts(slot: &[u8], at: &Identity, numbered: u32) -> (u32, [u64; 4]
 
 /// The code of a slot's status, and the slot's part of a frame: code, facts, generation, number, own checksum, previous
 /// checksum. The fields are those of the info under code 12, else those of the facts.
-pub fn frame_slot(slot: &[u8], at: &Identity, numbered: u32) -> (u32, [u8; 26]) {
+pub fn frame_slot(slot: &[u8], at: &Identity, numbered: u32) -> (u32, [u8; HALF]) {
     let (code, info) = validate(slot, at, numbered);
     let (shown, facts) = header_facts(slot, at, numbered);
     let [generation, number, own, previous] = match code {
         12 => [info[0], info[6], info[2], info[3]],
         _ => [facts[1], facts[2], facts[0], facts[3]],
     };
-    let mut part = [0; 26];
-    part[0] = code as u8;
-    part[1] = shown as u8;
-    part[2..10].copy_from_slice(&generation.to_le_bytes());
-    part[10..18].copy_from_slice(&number.to_le_bytes());
-    part[18..22].copy_from_slice(&(own as u32).to_le_bytes());
-    part[22..].copy_from_slice(&(previous as u32).to_le_bytes());
-    (code, part)
+    let part = Slot {
+        code: code as u8,
+        facts: shown as u8,
+        generation,
+        number,
+        own: own as u32,
+        previous: previous as u32,
+    };
+    (code, part.packed())
 }
 
 /// The report on a pair; `None` where a status is above 12, for which the reference has no value.

@@ -69,7 +69,7 @@ impl Implementation for Weak {
         let verdicts_len = frames.len() / FRAME * judge_reference::VERDICT;
         match judge_reference::judge(frames, clean.into(), verdicts_len) {
             Ok(judged) => Judged { refusal: 0, verdicts: judged.verdicts, judgement: judged.judgement },
-            Err(refusal) => Judged { refusal, verdicts: Vec::new(), judgement: [0; 5] },
+            Err(refusal) => Judged { refusal, verdicts: Vec::new(), judgement: [0; judge_reference::JUDGEMENT] },
         }
     }
 

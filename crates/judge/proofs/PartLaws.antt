@@ -7,7 +7,7 @@ use Rattle.slot.specs.declared.slot.SlotStatus.{SlotStatus}
 use Rattle.slot.specs.declared.slot.HeaderFacts.{HeaderFacts}
 use Rattle.judge.specs.declared.pairs.Version.{Version}
 use Rattle.judge.specs.declared.part.SlotPart.{SlotPart}
-use Rattle.judge.specs.Part.{part_of, part_bytes, part_at, part_status, part_shown, is_in_range, facts_number}
+use Rattle.judge.specs.Part.{part_width, part_of, part_bytes, part_at, part_status, part_shown, is_in_range, facts_number}
 use Rattle.judge.specs.Records.{shown_of}
 use Rattle.judge.specs.Same.{filled, NothingGiven, ChecksumGiven, VersionFits}
 
@@ -58,7 +58,7 @@ checksum_alone rest c own not_valid = simp (ne_eqb _ _ not_valid)
 
 -- ---- its bytes
 
-pub length_part : (p : SlotPart) → length (part_bytes p) ≡ 26
+pub length_part : (p : SlotPart) → length (part_bytes p) ≡ part_width
 unfolding part_bytes
 length_part p = refl
 

@@ -10,7 +10,7 @@ use Rattle.judge.specs.declared.part.SlotPart.{SlotPart}
 use Rattle.judge.specs.declared.verdict.PairVerdict.{PairVerdict}
 use Rattle.judge.specs.declared.verdict.JudgeError.{JudgeError}
 use Rattle.judge.specs.declared.records.PairRead.{PairRead}
-use Rattle.judge.specs.Part.{part_bytes, part_at, part_shown, is_in_range}
+use Rattle.judge.specs.Part.{part_width, part_bytes, part_at, part_shown, is_in_range}
 use Rattle.judge.specs.Judge.{verdicts, judgement, most_pairs, error, unless, left}
 use Rattle.judge.specs.Records.{pair_read, records_error, judge_records, records_left}
 use Rattle.judge.specs.Frames.{frame_width, verdict_width, pair_from, pair_in_range, pair_count, frames, row, row_bytes, frames_error, judge_frames, frames_left}
@@ -31,10 +31,10 @@ module _ (f : Framed) (fits : Fits f) where
   pub a-read : part_at (frame_of f) 0 ≡ a
   a-read = part-read (frame_of f) (part_bytes b) 0 a (filled-fits _ _ fits.a fits.rest_a) (start _ _ refl)
 
-  pub b-read : part_at (frame_of f) 26 ≡ b
+  pub b-read : part_at (frame_of f) part_width ≡ b
   b-read =
-      part-read (frame_of f) [] 26 b (filled-fits _ _ fits.b fits.rest_b)
-      (onward 26 (part_bytes a) (part_bytes b ++ []) (length_part a) (start _ _ (ap (λ (t : List ℕ). part_bytes a ++ t) (sym (append-nil (part_bytes b))))))
+      part-read (frame_of f) [] part_width b (filled-fits _ _ fits.b fits.rest_b)
+      (onward part_width (part_bytes a) (part_bytes b ++ []) (length_part a) (start _ _ (ap (λ (t : List ℕ). part_bytes a ++ t) (sym (append-nil (part_bytes b))))))
 
   frame-pair : pair_from (frame_of f) ≡ pair_read f.pair
   frame-pair =

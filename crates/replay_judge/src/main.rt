@@ -26,7 +26,7 @@ use judge::verdict::{MOST_PAIRS, PairVerdict, SlotVerdict, Standing};
 use row::{judge_row, put_verdicts};
 use slot::slot::SlotStatus;
 use std::io;
-use store_io::judging::{judgement_values, sio_judge};
+use store_io::judging::{JUDGEMENT, judgement_values, sio_judge};
 
 /// The most pairs of a row: more than are judged, to be refused.
 const PAIRS: usize = 2 * MOST_PAIRS;
@@ -64,10 +64,10 @@ fn over_frames(input: &[u8], answer: &mut Bytes) -> Option<()> {
     let (clean, rest) = first_u8(input)?;
     let (length, frames) = first_length(rest)?;
     let mut verdicts = Bytes::try_from([255u8; PAIRS * VERDICT].get(..length)?).ok()?;
-    let mut judgement = [255u64; 5];
+    let mut judgement = [255u64; JUDGEMENT];
     let refusal = sio_judge(frames, clean, &mut verdicts, &mut judgement);
     answer.try_push(narrow(refusal)).ok()?;
-    if refusal != 0 && verdicts.iter().all(|byte| *byte == 255) && judgement == [255u64; 5] {
+    if refusal != 0 && verdicts.iter().all(|byte| *byte == 255) && judgement == [255u64; JUDGEMENT] {
         return Some(());
     }
     put_judgement(answer, &judgement, &verdicts)
@@ -115,7 +115,7 @@ fn over_row(input: &[u8], answer: &mut Bytes) -> Option<()> {
     }
 }
 
-fn put_judgement(answer: &mut Bytes, judgement: &[u64; 5], verdicts: &[u8]) -> Option<()> {
+fn put_judgement(answer: &mut Bytes, judgement: &[u64; JUDGEMENT], verdicts: &[u8]) -> Option<()> {
     for number in judgement {
         answer.try_extend_from_slice(&number.to_le_bytes()).ok()?;
     }

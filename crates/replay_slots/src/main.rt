@@ -23,6 +23,7 @@
 
 use cases::input::{first_length, first_u8, first_u16, first_u32, first_u64, narrow};
 use cases::replay::{Bytes, Table};
+use judge::part::PART;
 use std::io;
 use store_io::pairs::sio_decide;
 use store_io::slots::{sio_encode, sio_frame_slot, sio_header_facts, sio_validate};
@@ -195,7 +196,7 @@ fn fac(input: &[u8], answer: &mut Bytes) -> Option<()> {
 
 fn frm(input: &[u8], answer: &mut Bytes) -> Option<()> {
     let p = read_placed(input)?;
-    let mut part = [0u8; 26];
+    let mut part = [0u8; PART];
     let status = sio_frame_slot(
         &p.slot,
         p.volume0,

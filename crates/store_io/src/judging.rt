@@ -8,13 +8,16 @@ ghost use Rattle.store_io.specs.Judging.{judgement_values};
 use judge::frames::judge;
 use judge::verdict::Judgement;
 
+/// The numbers of a judgement.
+pub const JUDGEMENT: usize = 5;
+
 // Judges a whole store from its frames.
 #[unsafe(no_mangle)]
 pub extern "C" fn sio_judge(
     frames: &[u8],
     clean: u8,
     verdicts: &mut [u8],
-    judgement: &mut [u64; 5],
+    judgement: &mut [u64; JUDGEMENT],
 ) -> u32
     ensures found { (result, judgement.new) ≡ answer error_number judgement_values judgement.old (judge_frames frames.now clean (length verdicts.old)) }
     ensures verdicts_after { verdicts.new ≡ frames_left frames.now clean verdicts.old }
@@ -30,7 +33,7 @@ pub extern "C" fn sio_judge(
 
 // The slot to heal and its pair, zeros without one; writable, clean, refused.
 // The C interface has a row of numbers for a record.
-pub fn judgement_values(j: &Judgement) -> [u64; 5]
+pub fn judgement_values(j: &Judgement) -> [u64; JUDGEMENT]
     ensures { result ≡ judgement_values j.now }
 {
     let (slot, pair) = match j.heal {
