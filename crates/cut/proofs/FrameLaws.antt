@@ -70,8 +70,8 @@ row_fits (Every.more {x = p} typed rest) = (
   record {
     a = slot_fits p.a.bytes p.a.expect typed.a.bytes;
     b = slot_fits p.b.bytes p.b.expect typed.b.bytes;
-    rest_a = record { generation = typed.a.generation; number = typed.a.number; own = typed.a.own; prev = typed.a.prev };
-    rest_b = record { generation = typed.b.generation; number = typed.b.number; own = typed.b.own; prev = typed.b.prev };
+    rest_a = typed.a.rest;
+    rest_b = typed.b.rest;
   },
   row_fits rest,
 )

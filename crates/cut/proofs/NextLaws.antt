@@ -116,10 +116,7 @@ bytes_typed s bytes typed all =
       volume_bytes = typed.volume_bytes;
       object = typed.object;
       offset = typed.offset;
-      generation = typed.generation;
-      number = typed.number;
-      own = typed.own;
-      prev = typed.prev;
+      rest = typed.rest;
     }
 
 pub back_slot : (p : Pair) (o : SlotIndex) → slot_at (other (other o)) p ≡ slot_at o p

@@ -11,7 +11,7 @@ use Rattle.slot.specs.declared.slot.Expect.{Expect}
 use Rattle.pair.specs.Winner.{read_pair}
 use Rattle.pair.specs.declared.pair.PairReport.{PairReport}
 use Rattle.judge.specs.Verdict.{by_index}
-use Rattle.judge.specs.Same.{Framed, frames_of, pairs_of}
+use Rattle.judge.specs.Same.{Framed, VersionFits, frames_of, pairs_of}
 use Rattle.judge.specs.Records.{pair_read}
 use Rattle.judge.specs.declared.pairs.Version.{Version}
 use Rattle.judge.specs.declared.pairs.Pair.{Pair as ShownPair}
@@ -123,10 +123,7 @@ pub record Typed (s : Slot) : Type 0 where
   pub volume_bytes : AllBytes s.expect.volume_uuid
   pub object : s.expect.object_id < 2 ^ 64
   pub offset : s.expect.slot_offset < 2 ^ 64
-  pub generation : s.rest.generation < 2 ^ 64
-  pub number : s.rest.meta_seq < 2 ^ 64
-  pub own : s.rest.header_crc32c < 2 ^ 32
-  pub prev : s.rest.prev_header_crc32c < 2 ^ 32
+  pub rest : VersionFits s.rest
 
 -- Format 2 and numbered.
 pub record SoundSlot (s : Slot) : Type 0 where
