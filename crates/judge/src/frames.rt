@@ -80,6 +80,11 @@ impl ReadPair for [u8; FRAME] {
         is_in_range(self)
     }
 
+    fn numbers(&self) -> (u64, u64) {
+        let (a, b) = parts(self);
+        (a.number(), b.number())
+    }
+
     #[inline(always)]
     fn pair(&self) -> Pair {
         shown(self)

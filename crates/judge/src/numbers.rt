@@ -1,9 +1,7 @@
 // The highest numbers of a store, kept as its slots are gone through, and the rule that a candidate's number is held to: one more than the
 // highest of all other numbered slots.
 ghost use Rattle.std.specs.Prelude.{◌≡◌};
-ghost use Rattle.judge.specs.Maxima.{noted, others_max, qualifies_by};
-
-use crate::pairs::{Pair, Shown};
+ghost use Rattle.judge.specs.Maxima.{note, others_max, qualifies_by};
 
 // The two highest numbers of the slots gone through, the same one twice where two slots hold it; 0 where there is none.
 #[derive(Clone, Copy, Default)]
@@ -13,19 +11,12 @@ pub struct Maxima {
 }
 
 impl Maxima {
-    fn note(&mut self, slot: Shown)
-        ensures { self.new ≡ noted self.old slot }
+    // Notes the number of one more slot, 0 where it is not numbered.
+    pub fn note(&mut self, v: u64)
+        ensures { self.new ≡ note self.old v }
     {
-        let v = slot.number();
         self.second = self.second.max(self.first.min(v));
         self.first = self.first.max(v);
-    }
-
-    pub fn note_pair(&mut self, pair: Pair)
-        ensures { self.new ≡ noted (noted self.old pair.a) pair.b }
-    {
-        self.note(pair.a);
-        self.note(pair.b);
     }
 
     // The highest number but for one slot that counts for `own`.

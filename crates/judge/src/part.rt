@@ -11,6 +11,8 @@
 //
 // Fields come from the Valid info under status 12, else from the facts; those not given are zero.
 ghost use Rattle.std.specs.Prelude.{◌≡◌, ◌+◌, ◌≤◌, length, take, drop};
+ghost use Rattle.judge.specs.Pairs.{numbered};
+ghost use Rattle.judge.specs.Numbers.{number};
 ghost use Rattle.judge.specs.Part.{part_width, version_of_info, info_of, numbered_of, version_of_facts, facts_number, part_of, part_bytes, part_at, part_status, part_shown, is_in_range};
 
 use crate::pairs::{Shown, Version};
@@ -175,6 +177,18 @@ impl SlotPart {
         ensures { result ≡ is_in_range self }
     {
         self.status().is_some() && self.facts <= 2
+    }
+
+    // The number that it counts for, 0 where it is not numbered: apart from what it shows, which takes a jump for each slot.
+    pub fn number(self) -> u64
+        ensures { result ≡ number (numbered (part_shown self)) }
+    {
+        match (self.status(), self.facts) {
+            (Some(SlotStatus::Valid(_)), _) | (Some(SlotStatus::BadPayloadCrc), 2) => {
+                self.version.meta_seq
+            }
+            _ => 0,
+        }
     }
 
     // What it tells the judge.

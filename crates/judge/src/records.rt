@@ -58,6 +58,10 @@ impl ReadPair for PairRead {
         true
     }
 
+    fn numbers(&self) -> (u64, u64) {
+        (self.a.shown().number(), self.b.shown().number())
+    }
+
     fn pair(&self) -> Pair {
         Pair {
             a: self.a.shown(),

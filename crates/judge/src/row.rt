@@ -7,7 +7,8 @@ ghost use Rattle.std.specs.Int.{from_bool};
 ghost use Rattle.judge.specs.declared.pairs.Pair.{Pair};
 ghost use Rattle.judge.specs.declared.verdict.PairVerdict.{PairVerdict};
 ghost use Rattle.judge.specs.Maxima.{no_maxima, note_all};
-ghost use Rattle.judge.specs.Numbers.{slots};
+ghost use Rattle.judge.specs.Pairs.{numbered};
+ghost use Rattle.judge.specs.Numbers.{number, slots};
 ghost use Rattle.judge.specs.Passes.{verdicts_by, no_tally, tallies, heals};
 ghost use Rattle.judge.specs.Judge.{volume_verdict, last_verdicts, judgement, verdicts, most_pairs, error, unless};
 
@@ -25,6 +26,10 @@ pub(crate) trait ReadPair {
     // Whether its values are in range.
     fn is_in_range(&self) -> bool
         ensures { result ≡ within self.now };
+
+    // The numbers that its slots count for, 0 where they are not numbered.
+    fn numbers(&self) -> (u64, u64)
+        ensures { result ≡ (number (numbered (shown self.now).a), number (numbered (shown self.now).b)) };
 
     // What the slots show.
     fn pair(&self) -> Pair
@@ -73,7 +78,9 @@ fn maxima<P: ReadPair>(pairs: &[P]) -> Option<Maxima>
         if !p.is_in_range() {
             return None;
         }
-        m.note_pair(p.pair());
+        let (a, b) = p.numbers();
+        m.note(a);
+        m.note(b);
     }
     Some(m)
 }
