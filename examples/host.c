@@ -338,9 +338,11 @@ static int print_store(struct store *store, char **words) {
     for (size_t pair = 0; pair < store->pairs; pair++) {
         status |= print_pair(store, pair);
     }
-    printf("heal slot %s of pair %" PRIu64 ", writable %" PRIu64 ", clean %" PRIu64 ", refused %" PRIu64 "\n",
+    printf("heal slot %s of pair %" PRIu64 ", writable %" PRIu64 ", clean %" PRIu64 ", refused %" PRIu64
+           ", owners differ %" PRIu64 "\n",
            slot_names[judgement[SIO_JUDGEMENT_HEAL_SLOT]], judgement[SIO_JUDGEMENT_HEAL_PAIR],
-           judgement[SIO_JUDGEMENT_WRITABLE], judgement[SIO_JUDGEMENT_CLEAN], judgement[SIO_JUDGEMENT_REFUSED]);
+           judgement[SIO_JUDGEMENT_WRITABLE], judgement[SIO_JUDGEMENT_CLEAN], judgement[SIO_JUDGEMENT_REFUSED],
+           judgement[SIO_JUDGEMENT_OWNERS_DIFFER]);
     return status;
 }
 

@@ -40,7 +40,7 @@ static const uint8_t letters[25] = "abcdefghijklmnopqrstuvwx";
 static uint16_t value16;
 static uint32_t value32, crc;
 static uint64_t value64, found2[2], found4[4], plan[4], found5[5], found7[7], found9[9], other9[9], found11[11], found13[13];
-static uint64_t found15[15];
+static uint64_t found15[15], judgement[SIO_JUDGEMENT_VALUES];
 
 #define SLOT_A V0, V1, 0, 0, 0, log2_slot, 2, 1
 #define LIMITS 12, 16384, 32768
@@ -77,7 +77,7 @@ CALL(sio_header_facts, a, size, SLOT_A, &found4)
 CALL(sio_frame_slot, a, size, SLOT_A, &part)
 CALL(sio_decide, 12, 2, 22, 11, 12, 1, 11, 0, &report5)
 CALL(sio_winner_payload, a, size, b, size, V0, V1, 0, 0, size, log2_slot, 2, 1, &found9, &other9, &report7, &start, &count)
-CALL(sio_judge, frames[0][0], pairs * sizeof frames[0], 0, verdicts[0], pairs * sizeof verdicts[0], &found5)
+CALL(sio_judge, frames[0][0], pairs * sizeof frames[0], 0, verdicts[0], pairs * sizeof verdicts[0], &judgement)
 CALL(sio_next_number, frames[0][0], pairs * sizeof frames[0], &value64)
 CALL(sio_heal_number, frames[0][0], pairs * sizeof frames[0], &value64)
 CALL(sio_plan_write, frames[0][0], pairs * sizeof frames[0], 0, &plan)

@@ -34,7 +34,7 @@
  *
  *    a slot                     2^log2_slot_size bytes, 512 to 65,536
  *    its payload                up to 128 bytes less than the slot
- *    frames, verdicts           52 and 4 bytes a pair, 1 to 112 pairs
+ *    frames, verdicts           68 and 4 bytes a pair, 1 to 112 pairs
  *    a volume record            64 bytes to decode, 64 or more to encode; 48 or more for its base
  *    a page                     24 bytes and 96 an entry to decode, that many or more to encode
  *    an entry                   96 bytes or more, of which the first 96 count
@@ -45,13 +45,11 @@
  *      64   sio_version sio_crc32c sio_crc32c_append sio_crc32c_gap sio_remaining sio_read_u8 sio_read_u16 sio_read_u32
  *           sio_read_u64 sio_read_bytes sio_read_array16 sio_read_array24 sio_write_u8 sio_write_u16 sio_write_u32
  *           sio_write_u64 sio_volume_decode sio_volume_base_decode sio_volume_base_encode sio_entries_per_page sio_table_end
- *           sio_check_file_len sio_decode_page sio_reserved_span
- *     128   sio_write_bytes sio_write_zeros sio_decide sio_next_number sio_heal_number sio_plan_write sio_volume_encode
- *           sio_encode_page sio_read_entry sio_write_entry
+ *           sio_check_file_len sio_decode_page sio_reserved_span sio_next_number sio_heal_number sio_plan_write
+ *     128   sio_write_bytes sio_write_zeros sio_decide sio_volume_encode sio_encode_page sio_read_entry sio_write_entry
  *     192   sio_region_name
  *     256   sio_judge
- *     320   sio_encode sio_region_name_padded
- *     384   sio_plan_heal
+ *     320   sio_encode sio_region_name_padded sio_plan_heal
  *     448   sio_header_facts sio_next_write sio_entry_name sio_entry_name_and_kind
  *     640   sio_validate sio_frame_slot sio_entry_to_raw
  *     704   sio_check_entry
@@ -74,7 +72,7 @@
 #include <stddef.h>
 #include <stdint.h>
 
-#define SIO_VERSION 1
+#define SIO_VERSION 2
 
 /* ---- Constants ----
  *
@@ -214,8 +212,8 @@ enum {
 };
 enum {
     SIO_HEADER_LEN = 128, /* a slot's header */
-    SIO_PART_LEN = 26,    /* a slot's part of a frame */
-    SIO_FRAME_LEN = 52,   /* a pair's frame */
+    SIO_PART_LEN = 34,    /* a slot's part of a frame */
+    SIO_FRAME_LEN = 68,   /* a pair's frame */
     SIO_MOST_PAIRS = 112, /* the most pairs of a store that is judged */
     SIO_VERDICT_LEN = 4,  /* a pair's verdict */
     SIO_VOLUME_LEN = 64,  /* a volume record */
@@ -227,15 +225,16 @@ enum {
 };
 
 /* A slot's part of a frame by its offsets, numbers little-endian: one byte each of status and facts, eight each of generation
- * and number, four each of the slot's own header checksum and of the previous one. Under status 12 all are given, else as many
- * as the facts say; the others are 0. */
+ * and number, four each of the slot's own header checksum and of the previous one, eight of the owner generation. Under status
+ * 12 all are given, else as many as the facts say, and no owner generation; the others are 0. */
 enum {
     SIO_PART_STATUS = 0,
     SIO_PART_FACTS = 1,
     SIO_PART_GENERATION = 2,
     SIO_PART_META_SEQ = 10,
     SIO_PART_HEADER_CRC32C = 18,
-    SIO_PART_PREV_HEADER_CRC32C = 22
+    SIO_PART_PREV_HEADER_CRC32C = 22,
+    SIO_PART_OWNER_GENERATION = 26
 };
 
 /* *found of sio_validate under 12, *values_a and *values_b of sio_winner_payload. */
@@ -298,7 +297,8 @@ enum {
     SIO_JUDGEMENT_WRITABLE = 2,
     SIO_JUDGEMENT_CLEAN = 3,
     SIO_JUDGEMENT_REFUSED = 4,
-    SIO_JUDGEMENT_VALUES = 5
+    SIO_JUDGEMENT_OWNERS_DIFFER = 5,
+    SIO_JUDGEMENT_VALUES = 6
 };
 
 /* *plan of sio_plan_write and sio_next_write. */
@@ -477,7 +477,7 @@ uint32_t sio_header_facts(const uint8_t *slot, size_t len, uint64_t volume0, uin
                           uint32_t numbered, uint64_t (*found)[SIO_FACT_VALUES]);
 
 /* A slot's part of a frame, for the judge, SIO_PART_..: all of *part is written, and the slot's status is returned. The part
- * of a slot that could not be read is 26 bytes of 0, written by the host. */
+ * of a slot that could not be read is 34 bytes of 0, written by the host. */
 uint32_t sio_frame_slot(const uint8_t *slot, size_t len, uint64_t volume0, uint64_t volume1, uint64_t object_id,
                         uint64_t slot_offset, uint32_t index, uint8_t log2_slot_size, uint16_t format_major,
                         uint32_t numbered, uint8_t (*part)[SIO_PART_LEN]);
@@ -520,7 +520,7 @@ uint32_t sio_winner_payload(const uint8_t *a, size_t a_len, const uint8_t *b, si
  *      refuses, there is no store to open; nor where the record counts more than 111 table pages, since a store of more than
  *      SIO_MOST_PAIRS pairs is not judged.
  *   2. Read every slot of every pair whole, and fill its part of the frames with sio_frame_slot. A slot that could not be read
- *      is 26 bytes of 0, and never a slot of zeros.
+ *      is 34 bytes of 0, and never a slot of zeros.
  *   3. Judge: sio_judge, with the clean mark of that record.
  *   4. Take a pair's record where its verdict names a winner: the payload that sio_winner_payload names of the same bytes. It
  *      counts where its decoder accepts it: sio_volume_decode of pair 0, sio_decode_page of a page, and of each of its entries
@@ -555,8 +555,8 @@ uint32_t sio_winner_payload(const uint8_t *a, size_t a_len, const uint8_t *b, si
  *   - writes a record that its decoder refuses.
  */
 
-/* Judges a whole store from its frames, 52 bytes a pair: the parts of slot A and of slot B, as sio_frame_slot fills them. Pair
- * 0 is the volume record, and clean is its clean mark, 0 or 1. Refuses with 8 (no bytes), 45 (more than 5,824 bytes, which are
+/* Judges a whole store from its frames, 68 bytes a pair: the parts of slot A and of slot B, as sio_frame_slot fills them. Pair
+ * 0 is the volume record, and clean is its clean mark, 0 or 1. Refuses with 8 (no bytes), 45 (more than 7,616 bytes, which are
  * SIO_MOST_PAIRS frames), 10 (not whole frames), 9 (verdicts_len) or 10 (a value out of range), in this order, and leaves
  * verdicts and *judgement; else 0, and all of both is written.
  *
@@ -564,7 +564,8 @@ uint32_t sio_winner_payload(const uint8_t *a, size_t a_len, const uint8_t *b, si
  * (0 none, 1 A, 2 B), what became of A and of B (0 Winner, 1 Nothing, 2 OlderDamaged, 3 InFlight, 4 Damage).
  *
  * judgement, SIO_JUDGEMENT_..: the slot to heal (0 none, 1 A, 2 B), its pair (0 without a heal), whether the store may be
- * written, whether the clean mark counted, whether a pair is refused.
+ * written, whether the clean mark counted, whether a pair is refused, whether two winners, any two, have different owner
+ * generations.
  */
 uint32_t sio_judge(const uint8_t *frames, size_t frames_len, uint8_t clean, uint8_t *verdicts, size_t verdicts_len,
                    uint64_t (*judgement)[SIO_JUDGEMENT_VALUES]);
@@ -572,7 +573,7 @@ uint32_t sio_judge(const uint8_t *frames, size_t frames_len, uint8_t clean, uint
 /* ---- The next write ----
  *
  * What a correct write is: which slot it goes to, and its generation, previous checksum and number. frames are as for
- * sio_judge. All five refuse as the judge does first, but 9: 8 (no bytes), 45 (more than 5,824 bytes), 10 (not whole frames),
+ * sio_judge. All five refuse as the judge does first, but 9: 8 (no bytes), 45 (more than 7,616 bytes), 10 (not whole frames),
  * 10 (a value out of range, the mark of sio_plan_heal too), and then as said at each. A refusal leaves every number, plan,
  * checksum and byte as it was.
  *

@@ -6,7 +6,9 @@ use crate::frames::{BAD_HEADER, BAD_PAYLOAD, BLANK, FRAME, HALF, VALID};
 use crate::implementation::{Implementation, Judged, WinnerPayload};
 use crate::judge_reference::VERDICT;
 use crate::part::{number, Fields};
+use crate::sample::OWNER;
 use crate::value::{hex, Value};
+use std::collections::BTreeSet;
 
 /// What a slot's verdict says besides Winner.
 pub const NOTHING: u8 = 1;
@@ -84,9 +86,14 @@ pub fn verdict(winner: usize, other: u8) -> [u8; VERDICT] {
 }
 
 /// The judge's answer to a writable store of Confirmed pairs, one of whose slots may be named for healing.
-pub fn confirmed(verdicts: Vec<u8>, healed: Option<(usize, usize)>, clean: bool) -> Judged {
+pub fn confirmed(verdicts: Vec<u8>, healed: Option<(usize, usize)>, clean: bool, owners_differ: bool) -> Judged {
     let (pair, slot) = healed.map_or((0, 0), |(pair, slot)| (pair, slot + 1));
-    Judged { refusal: 0, verdicts, judgement: [slot as u64, pair as u64, 1, clean.into(), 0] }
+    Judged { refusal: 0, verdicts, judgement: [slot as u64, pair as u64, 1, clean.into(), 0, owners_differ.into()] }
+}
+
+/// Whether two of the winners, any two, have different owner generations.
+pub fn owners_differ<'a>(winners: impl Iterator<Item = &'a Vec<u8>>) -> bool {
+    winners.map(|slot| &slot[OWNER]).collect::<BTreeSet<_>>().len() > 1
 }
 
 impl Answers {

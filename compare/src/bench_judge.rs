@@ -3,10 +3,12 @@
 use crate::bench::{cells, Contestant, Table, OURS};
 use crate::ffi;
 use crate::frames::{packed, Cut, Store};
-use crate::judge::{judge, Judgement, PairRead, PairVerdict};
-use crate::judge_reference::{decode, judgement_numbers, verdict_bytes, JUDGEMENT, MOST_PAIRS, NOT_JUDGED, NOT_READ, VERDICT};
+use crate::judge::{judge, PairRead, PairVerdict, SlotRead};
+use crate::judge_reference::{
+    decode, judgement_numbers, verdict_bytes, JUDGEMENT, MOST_PAIRS, NOT_JUDGED, NOT_READ, VERDICT,
+};
 use crate::rng::Rng;
-use crate::slot::SlotInfo;
+use crate::slot::{SlotIndex, SlotInfo, SlotStatus};
 use crate::slot_reference::some_info;
 use std::cell::Cell;
 
@@ -69,17 +71,16 @@ fn input(store: &Store) -> Input {
     input
 }
 
-/// The judgement in one number, or 0 where it is refused.
-fn answer([slot, pair, writable, clean, refused]: [u64; JUDGEMENT]) -> u64 {
-    pair << 8 | slot << 4 | writable << 2 | clean << 1 | refused
+/// A judgement in one number.
+fn answer([slot, pair, writable, clean, refused, differ]: [u64; JUDGEMENT]) -> u64 {
+    pair << 8 | slot << 6 | writable << 3 | clean << 2 | refused << 1 | differ
 }
 
-fn judgement(input: &mut Input) -> Option<Judgement> {
-    judge(&input.pairs, CLEAN == 1, &mut input.verdicts).ok()
-}
-
+/// The Rust's judgement, and whether owners differ, which it does not say; 0 where it refuses.
 fn rust_judge(input: &mut Input) -> u64 {
-    judgement(input).map_or(0, |judgement| answer(judgement_numbers(&judgement)))
+    let Ok(judgement) = judge(&input.pairs, CLEAN == 1, &mut input.verdicts) else { return 0 };
+    let [slot, pair, writable, clean, refused] = judgement_numbers(&judgement);
+    answer([slot, pair, writable, clean, refused, owners_differ(&input.pairs, &input.verdicts).into()])
 }
 
 /// Tests the ranges, and writes the verdicts' bytes.
@@ -87,11 +88,28 @@ fn decode_and_judge(input: &mut Input) -> u64 {
     if !decode(&input.some_info, &input.frames, &mut input.pairs) {
         return 0;
     }
-    let Some(judgement) = judgement(input) else { return 0 };
+    let answer = rust_judge(input);
     for (bytes, verdict) in input.verdict_bytes.chunks_exact_mut(VERDICT).zip(&input.verdicts) {
         bytes.copy_from_slice(&verdict_bytes(verdict));
     }
-    answer(judgement_numbers(&judgement))
+    answer
+}
+
+/// Two winners, any two: each is compared with the first one.
+fn owners_differ(pairs: &[PairRead], verdicts: &[PairVerdict]) -> bool {
+    let mut owners = pairs.iter().zip(verdicts).filter_map(|(pair, verdict)| match verdict.winner? {
+        SlotIndex::A => owner(&pair.a),
+        SlotIndex::B => owner(&pair.b),
+    });
+    let first = owners.next();
+    owners.any(|owner| Some(owner) != first)
+}
+
+fn owner(slot: &SlotRead) -> Option<u64> {
+    match slot.status {
+        SlotStatus::Valid(info) => Some(info.owner_generation),
+        _ => None,
+    }
 }
 
 fn our_judge(input: &mut Input) -> u64 {

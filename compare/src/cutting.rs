@@ -1,6 +1,6 @@
 //! One write cut in many ways: what is answered to each slot that is left, beside what the cut theorem promises.
 
-use crate::answers::{confirmed, fill_frame, verdict, Answers, Left, ReadBack, IN_FLIGHT, NOTHING};
+use crate::answers::{confirmed, fill_frame, owners_differ, verdict, Answers, Left, ReadBack, IN_FLIGHT, NOTHING};
 use crate::cut_store::{Pair, Write};
 use crate::frames::{BLANK, FRAME, VALID};
 use crate::implementation::Implementation;
@@ -136,9 +136,11 @@ impl<'a> Cutting<'a> {
         let mut verdicts: Vec<u8> = self.store.iter().flat_map(|pair| verdict(pair.winner, NOTHING)).collect();
         verdicts[VERDICT * at..VERDICT * (at + 1)].copy_from_slice(&verdict(winner, says));
         let healed = (says == IN_FLIGHT).then_some((*at, *slot));
+        let others = self.store.iter().enumerate().filter(|(other, _)| other != at);
+        let winners = others.map(|(_, pair)| &pair.slots[pair.winner]).chain([&self.slots[winner]]);
         Answers {
             status: status.into(),
-            judged: confirmed(verdicts, healed, self.mark(left)),
+            judged: confirmed(verdicts, healed, self.mark(left), owners_differ(winners)),
             read: ReadBack::promised(winner, statuses, record),
         }
     }

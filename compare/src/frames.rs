@@ -5,8 +5,8 @@ use crate::rng::Rng;
 use std::ops::RangeInclusive;
 
 /// The bytes of a pair, and of each slot in it.
-pub const FRAME: usize = 52;
-pub const HALF: usize = 26;
+pub const FRAME: usize = 2 * HALF;
+pub const HALF: usize = 34;
 
 /// Lengths of frames from a pair and a byte fewer than the most pairs have to as much more.
 pub const MOST_LENGTHS: RangeInclusive<usize> = (MOST_PAIRS - 1) * FRAME - 1..=(MOST_PAIRS + 1) * FRAME + 1;
@@ -20,6 +20,7 @@ pub struct Slot {
     pub number: u64,
     pub own: u32,
     pub previous: u32,
+    pub owner: u64,
 }
 
 /// Slot A and slot B.
@@ -37,6 +38,7 @@ impl Slot {
             number: u64::from_le_bytes(field(part, 10)),
             own: u32::from_le_bytes(field(part, 18)),
             previous: u32::from_le_bytes(field(part, 22)),
+            owner: u64::from_le_bytes(field(part, 26)),
         }
     }
 
@@ -47,7 +49,8 @@ impl Slot {
         part[2..10].copy_from_slice(&self.generation.to_le_bytes());
         part[10..18].copy_from_slice(&self.number.to_le_bytes());
         part[18..22].copy_from_slice(&self.own.to_le_bytes());
-        part[22..].copy_from_slice(&self.previous.to_le_bytes());
+        part[22..26].copy_from_slice(&self.previous.to_le_bytes());
+        part[26..].copy_from_slice(&self.owner.to_le_bytes());
         part
     }
 }
@@ -73,23 +76,27 @@ pub const VALID: u8 = 12;
 const OWN: u32 = 0x1111_1111;
 const PREVIOUS: u32 = 0x2222_2222;
 
+/// The owner generation of Valid slots, and what stands in its place in slots of which it is not given.
+pub const OWNER: u64 = 5;
+pub const OTHER_OWNER: u64 = 6;
+
 /// A slot that shows nothing.
 pub const fn nothing(code: u8) -> Slot {
-    Slot { code, facts: 0, generation: 0, number: 0, own: 0, previous: 0 }
+    Slot { code, facts: 0, generation: 0, number: 0, own: 0, previous: 0, owner: 0 }
 }
 
 pub const fn valid(generation: u64, number: u64) -> Slot {
-    Slot { code: VALID, facts: 2, generation, number, own: OWN, previous: PREVIOUS }
+    Slot { code: VALID, facts: 2, generation, number, own: OWN, previous: PREVIOUS, owner: OWNER }
 }
 
 /// A slot with a whole header and a damaged payload.
 pub const fn bad_payload(generation: u64, number: u64, previous: u32) -> Slot {
-    Slot { code: BAD_PAYLOAD, facts: 2, generation, number, own: 0x3333_3333, previous }
+    Slot { code: BAD_PAYLOAD, facts: 2, generation, number, own: 0x3333_3333, previous, owner: OTHER_OWNER }
 }
 
 /// A slot with a damaged header of which the checksum is read.
 pub const fn bad_header(own: u32) -> Slot {
-    Slot { code: BAD_HEADER, facts: 1, generation: 0, number: 0, own, previous: 0 }
+    Slot { code: BAD_HEADER, facts: 1, generation: 0, number: 0, own, previous: 0, owner: OTHER_OWNER }
 }
 
 // Pairs by what they are in a store where 4 is the highest number.
@@ -159,12 +166,13 @@ pub const CUTS: [Cut; 2] = [Cut::Header, Cut::Payload];
 pub struct Store {
     pub row: Vec<Pair>,
     next_number: u64,
+    owner: u64,
 }
 
 impl Store {
     /// Each pair in its first generation.
     pub fn new(rng: &mut Rng, pairs: usize) -> Self {
-        let mut store = Self { row: Vec::new(), next_number: 1 };
+        let mut store = Self { row: Vec::new(), next_number: 1, owner: OWNER };
         for _ in 0..pairs {
             let pair = store.first_pair(rng);
             store.row.push(pair);
@@ -174,7 +182,7 @@ impl Store {
 
     /// Written some times; now and then with the last numbers or generations.
     pub fn random(rng: &mut Rng, pairs: usize) -> Self {
-        let mut store = Self { row: Vec::new(), next_number: 1 };
+        let mut store = Self { row: Vec::new(), next_number: 1, owner: OWNER };
         if rng.one_in(8) {
             store.next_number = u64::MAX - rng.below(3 * pairs + 3) as u64;
         }
@@ -207,7 +215,8 @@ impl Store {
     fn version(&mut self, rng: &mut Rng, generation: u64, previous: u32) -> Slot {
         let number = self.next_number;
         self.next_number = number.saturating_add(1);
-        Slot { code: VALID, facts: 2, generation, number, own: random_checksum(rng), previous }
+        let own = random_checksum(rng);
+        Slot { code: VALID, facts: 2, generation, number, own, previous, owner: self.owner }
     }
 
     /// Writes a pair again, if its generation has a successor.
@@ -220,8 +229,11 @@ impl Store {
         }
     }
 
-    /// Writes random pairs again.
+    /// Writes random pairs again, now and then with another owner from then on.
     pub fn write_some(&mut self, rng: &mut Rng, writes: usize) {
+        if rng.one_in(4) {
+            self.owner = rng.any();
+        }
         for _ in 0..writes {
             let pair = rng.below(self.row.len());
             self.write(rng, pair);
@@ -303,6 +315,7 @@ fn few_values(rng: &mut Rng) -> Slot {
         number: rng.pick(&[0, 0, 1, 2, 3, 4, u64::MAX - 1, u64::MAX]),
         own: rng.pick(&[0, 1, 2]),
         previous: rng.pick(&[0, 1, 2]),
+        owner: rng.pick(&[0, 0, 0, 1, u64::MAX]),
     }
 }
 
@@ -342,6 +355,8 @@ const CHANGES: &[Change] = &[
     |rng, row, pair, side| row[pair][side].own ^= 1 << rng.below(32),
     |_, row, pair, side| row[pair][side].own = row[pair][1 - side].previous,
     |rng, row, pair, side| row[pair][side].previous ^= 1 << rng.below(32),
+    |rng, row, pair, side| row[pair][side].owner ^= 1 << rng.below(64),
+    |_, row, pair, side| row[pair][side].owner = row[pair][1 - side].owner,
     |_, row, pair, _| row[pair].swap(0, 1),
     |rng, row, pair, _| row[pair] = rng.pick(&FORMS),
 ];

@@ -1,7 +1,7 @@
 //! A store while writes go to it one after the other, finished or cut: what a host is told to write, and what is answered
 //! after each, beside what docs/FORMAT.md says and what is promised.
 
-use crate::answers::{confirmed, fill_frame, verdict, Answers, Left, ReadBack};
+use crate::answers::{confirmed, fill_frame, owners_differ, verdict, Answers, Left, ReadBack};
 use crate::cut_store::{self, flags_for};
 use crate::ffi_plan::Written;
 use crate::frames::FRAME;
@@ -184,7 +184,8 @@ impl<'a> History<'a> {
         let healed = self.named().map(|named| (named, self.pairs[named].other()));
         let verdicts = self.pairs.iter().flat_map(|pair| verdict(pair.winner, pair.answered().1)).collect();
         let status = step.left.answered(pair.header == Header::Blank).0.into();
-        Answers { status, judged: confirmed(verdicts, healed, false), read: pair.promised() }
+        let owners_differ = owners_differ(self.pairs.iter().map(|pair| &pair.slots[pair.winner]));
+        Answers { status, judged: confirmed(verdicts, healed, false, owners_differ), read: pair.promised() }
     }
 
     pub fn found(&self, step: &Step) -> Answers {

@@ -6,6 +6,7 @@ use super::judge::{self, JudgeError, Judgement, PairRead, PairVerdict, SlotRead,
 use super::slot::{HeaderFacts, NumberedHeader, SlotInfo, SlotStatus};
 use super::slot_reference::{index_number, some_info};
 use crate::frames::{Slot, FRAME, HALF};
+use std::collections::BTreeSet;
 
 pub const NO_PAIR: u32 = 8;
 pub const VERDICTS_LEN: u32 = 9;
@@ -17,7 +18,7 @@ pub const MOST_PAIRS: usize = 112;
 
 /// The bytes of a pair's verdict, and the numbers of a judgement.
 pub const VERDICT: usize = 4;
-pub const JUDGEMENT: usize = 5;
+pub const JUDGEMENT: usize = 6;
 
 pub struct Judged {
     pub verdicts: Vec<u8>,
@@ -49,7 +50,17 @@ pub fn judge_any(frames: &[u8], clean: u8, verdicts_len: usize) -> Result<Judged
     }
     let mut verdicts = vec![NOT_JUDGED; pairs.len()];
     let judgement = judge::judge(&pairs, clean == 1, &mut verdicts).expect("the reference refuses a row of pairs");
-    Ok(Judged { verdicts: verdicts.iter().flat_map(verdict_bytes).collect(), judgement: judgement_numbers(&judgement) })
+    let verdicts: Vec<u8> = verdicts.iter().flat_map(verdict_bytes).collect();
+    let [slot, pair, writable, clean, refused] = judgement_numbers(&judgement);
+    let differ = owners(frames, &verdicts).len() > 1;
+    Ok(Judged { judgement: [slot, pair, writable, clean, refused, differ.into()], verdicts })
+}
+
+/// The owner generations of the winners, each once. The reference judges without them.
+pub fn owners(frames: &[u8], verdicts: &[u8]) -> BTreeSet<u64> {
+    let pairs = frames.chunks(FRAME).zip(verdicts.chunks(VERDICT));
+    let winners = pairs.filter_map(|(frame, verdict)| Some(&frame[HALF * usize::from(verdict[1]).checked_sub(1)?..]));
+    winners.map(|part| Slot::read(part).owner).collect()
 }
 
 /// The refusal of the pairs of whole frames where `room` verdicts are lent, and the verdicts that are left.
@@ -83,8 +94,10 @@ pub const NOT_READ: PairRead = PairRead {
 #[inline(never)]
 pub fn decode(some_info: &SlotInfo, frames: &[u8], pairs: &mut [PairRead]) -> bool {
     for (frame, pair) in frames.chunks_exact(FRAME).zip(pairs) {
-        let slot = |at: usize| slot_read(some_info, Slot::read(&frame[at..]));
-        let (Some(a), Some(b)) = (slot(0), slot(HALF)) else { return false };
+        let (a, b) = frame.split_at(HALF);
+        let (Some(a), Some(b)) = (slot_read(some_info, Slot::read(a)), slot_read(some_info, Slot::read(b))) else {
+            return false;
+        };
         *pair = PairRead { a, b };
     }
     true
@@ -92,7 +105,7 @@ pub fn decode(some_info: &SlotInfo, frames: &[u8], pairs: &mut [PairRead]) -> bo
 
 #[inline(always)]
 fn slot_read(some_info: &SlotInfo, part: Slot) -> Option<SlotRead> {
-    let Slot { generation, number: meta_seq, own, previous: prev_header_crc32c, .. } = part;
+    let Slot { generation, number: meta_seq, own, previous: prev_header_crc32c, owner: owner_generation, .. } = part;
     let numbered = NumberedHeader { generation, meta_seq, prev_header_crc32c };
     let facts = match part.facts {
         0 => None,
@@ -119,6 +132,7 @@ fn slot_read(some_info: &SlotInfo, part: Slot) -> Option<SlotRead> {
             info.meta_seq = meta_seq;
             info.header_crc32c = own;
             info.prev_header_crc32c = prev_header_crc32c;
+            info.owner_generation = owner_generation;
             SlotStatus::Valid(info)
         }
         _ => return None,
@@ -131,7 +145,8 @@ pub fn verdict_bytes(verdict: &PairVerdict) -> [u8; VERDICT] {
     [verdict.standing as u8, verdict.winner.map_or(0, index_number), verdict.a as u8, verdict.b as u8]
 }
 
-pub fn judgement_numbers(judgement: &Judgement) -> [u64; JUDGEMENT] {
+/// All numbers of a judgement but the last.
+pub fn judgement_numbers(judgement: &Judgement) -> [u64; JUDGEMENT - 1] {
     let (pair, slot) = judgement.heal.map_or((0, 0), |(pair, index)| (pair as u64, index_number(index).into()));
     [slot, pair, judgement.writable.into(), judgement.clean.into(), judgement.refused.into()]
 }

@@ -3,7 +3,9 @@
 use crate::counts::{Answer, Function};
 use crate::ffi;
 use crate::frames::{packed, random_row, BAD_HEADER, FRAME, HALF};
-use crate::judge_reference::{judge, judge_any, Judged, BAD_FRAMES, NO_PAIR, TOO_MANY_PAIRS, VERDICT, VERDICTS_LEN};
+use crate::judge_reference::{
+    judge, judge_any, owners, Judged, BAD_FRAMES, NO_PAIR, TOO_MANY_PAIRS, VERDICT, VERDICTS_LEN,
+};
 use crate::judging_sweep::sweep;
 use crate::lent::{Lent, LentCell};
 use crate::part::{number, Checked, Part, Report, Run};
@@ -12,6 +14,7 @@ use crate::rng::Rng;
 const JUDGE: &str = "sio_judge";
 const VOLUME: &str = "sio_judge: volume";
 const PAGE: &str = "sio_judge: page";
+const OWNERS: &str = "sio_judge: owners";
 const OTHER: &str = "sio_judge: the Rust's other answer";
 
 const REFUSALS: &[Answer] = &[
@@ -34,6 +37,15 @@ pub const JUDGEMENTS: &[Answer] = &[
     Answer::Decision("not writable"),
     Answer::Decision("refused"),
     Answer::Decision("refused, clean"),
+];
+
+/// By the owner generations of the winners.
+pub const WINNERS: &[Answer] = &[
+    Answer::Decision("no winner"),
+    Answer::Decision("one winner"),
+    Answer::Decision("one owner"),
+    Answer::Decision("two owners"),
+    Answer::Decision("two owners, the volume record lost"),
 ];
 
 const TORN_HEADER: &str = "torn header not healed";
@@ -61,6 +73,7 @@ pub const PART: Part = Part {
         Function::new(JUDGE, JUDGEMENTS),
         Function::part(VOLUME, VERDICTS),
         Function::part(PAGE, VERDICTS),
+        Function::part(OWNERS, WINNERS),
         Function::part(OTHER, OTHERS),
     ],
     sweep,
@@ -124,6 +137,7 @@ pub fn compare(run: &mut Run, call: &Call) -> Checked {
     if let Ok(judged) = &expected {
         verdicts.expected_mut().copy_from_slice(&judged.verdicts);
         count_verdicts(run, [VOLUME, PAGE], &call.frames, judged);
+        run.counts.add_part(OWNERS, owners_answer(&call.frames, judged));
     }
     if matches!(expected, Err(TOO_MANY_PAIRS)) {
         run.counts.add_part(OTHER, other(&judge_any(&call.frames, call.clean, call.verdicts_len)));
@@ -162,7 +176,8 @@ fn answer(judged: &Result<Judged, u32>) -> Answer {
 }
 
 pub fn judgement_answer(judged: &Judged) -> Answer {
-    Answer::Decision(match judged.judgement {
+    let [numbers @ .., _] = judged.judgement;
+    Answer::Decision(match numbers {
         [1, 0, 1, 0, 0] => "heal volume A",
         [2, 0, 1, 0, 0] => "heal volume B",
         [1, _, 1, 0, 0] => "heal page A",
@@ -172,7 +187,19 @@ pub fn judgement_answer(judged: &Judged) -> Answer {
         [0, 0, 0, 0, 0] => "not writable",
         [0, 0, 0, 0, 1] => "refused",
         [0, 0, 0, 1, 1] => "refused, clean",
-        judgement => panic!("the reference gives a judgement of no known form: {judgement:?}"),
+        numbers => panic!("the reference gives a judgement of no known form: {numbers:?}"),
+    })
+}
+
+pub fn owners_answer(frames: &[u8], judged: &Judged) -> Answer {
+    let winners: Vec<bool> = judged.verdicts.chunks(VERDICT).map(|verdict| verdict[1] != 0).collect();
+    let count = winners.iter().filter(|won| **won).count();
+    Answer::Decision(match (count, owners(frames, &judged.verdicts).len()) {
+        (0, _) => "no winner",
+        (1, _) => "one winner",
+        (_, 1) => "one owner",
+        _ if winners[0] => "two owners",
+        _ => "two owners, the volume record lost",
     })
 }
 

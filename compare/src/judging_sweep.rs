@@ -1,8 +1,8 @@
 //! Every case of a small range of stores to judge.
 
 use crate::frames::{
-    packed, Cut, Pair, Slot, Store, BAD_HEADER, BAD_PAYLOAD, CUTS, FIRST, FORMS, FRAME, HALF, MOST_LENGTHS,
-    NUMBER_BELOW, SOUND_A, SOUND_B, TORN_HEADER_B, VALID,
+    packed, Cut, Pair, Slot, Store, BAD_HEADER, BAD_PAYLOAD, CUTS, FIRST, FORMS, FRAME, HALF, LOST_NUMBER,
+    MOST_LENGTHS, NUMBER_BELOW, OTHER_OWNER, OWNER, SOUND_A, SOUND_B, TORN_HEADER_B, TORN_PAYLOAD_B, VALID,
 };
 use crate::judge_reference::{MOST_PAIRS, VERDICT};
 use crate::judging::{compare, Call};
@@ -17,6 +17,7 @@ pub fn sweep(run: &mut Run) -> Checked {
     two_statuses(run)?;
     single_bits(run)?;
     rows_of_forms(run)?;
+    rows_of_owners(run)?;
     every_place(run)?;
     two_places(run)?;
     long_rows(run)?;
@@ -93,6 +94,7 @@ fn random_slot(rng: &mut Rng, code: u8) -> Slot {
         number: rng.any(),
         own: rng.any() as u32,
         previous: rng.any() as u32,
+        owner: rng.any(),
     }
 }
 
@@ -159,6 +161,25 @@ fn rows_of_forms(run: &mut Run) -> Checked {
     }
     Ok(())
 }
+
+/// Rows of one to four pairs, won by either slot, with a slot in flight or without a winner, whose slots have one of two owners.
+fn rows_of_owners(run: &mut Run) -> Checked {
+    for pairs in 1..=4 {
+        for forms in 0..OWNED.len().pow(pairs) {
+            let row: Vec<Pair> = (0..pairs).map(|at| OWNED[forms / OWNED.len().pow(at) % OWNED.len()]).collect();
+            for owners in 0..1 << (2 * pairs) {
+                let mut row = row.clone();
+                for (at, slot) in row.iter_mut().flatten().enumerate() {
+                    slot.owner = if owners >> at & 1 == 0 { OWNER } else { OTHER_OWNER };
+                }
+                compare_row(run, &row, 0)?;
+            }
+        }
+    }
+    Ok(())
+}
+
+const OWNED: [Pair; 4] = [SOUND_A, SOUND_B, TORN_PAYLOAD_B, LOST_NUMBER];
 
 /// One torn write in every place of a row.
 fn every_place(run: &mut Run) -> Checked {

@@ -6,15 +6,15 @@
 //! | frm | over frames | MARK, frames | refusal (1) |
 //! | row | over records | MARK, frames | refusal (1), verdicts as they were |
 //!
-//! The widths in bytes are in brackets. MARK is the clean mark (1) and the length of the verdicts (2). JUDGEMENT has five
-//! numbers (8 each): the slot to heal, its pair, writable, clean, refused. Frames and verdicts go to the end of their
-//! field. At a refusal of the judge over frames verdicts and judgement are as they were.
+//! The widths in bytes are in brackets. MARK is the clean mark (1) and the length of the verdicts (2). JUDGEMENT has six
+//! numbers (8 each): the slot to heal, its pair, writable, clean, refused, whether owners differ. Frames and verdicts go to
+//! the end of their field. At a refusal of the judge over frames verdicts and judgement are as they were.
 
 use crate::frames::{
     bad_header, bad_payload, nothing, packed, valid, Pair, Slot, BAD_HEADER, BLANK, BLANK_A, BLANK_B, FIRST, FORK,
     FRAME, HALF, LOST, LOST_NUMBER, NO_LINK, NUMBER_ABOVE, NUMBER_BELOW, NUMBER_LAST, OLDER_HEADER_A, OLDER_HEADER_B,
-    OLDER_PAYLOAD_A, OLDER_PAYLOAD_B, REFUSED_A, REFUSED_B, SOUND_A, SOUND_B, TORN_HEADER_A, TORN_HEADER_B,
-    TORN_PAYLOAD_A, TORN_PAYLOAD_B, UNREAD_A, UNREAD_B, VALID,
+    OLDER_PAYLOAD_A, OLDER_PAYLOAD_B, OTHER_OWNER, REFUSED_A, REFUSED_B, SOUND_A, SOUND_B, TORN_HEADER_A,
+    TORN_HEADER_B, TORN_PAYLOAD_A, TORN_PAYLOAD_B, UNREAD_A, UNREAD_B, VALID,
 };
 use crate::judge_reference::{judge, judge_records, Judged, MOST_PAIRS, VERDICT};
 use crate::list::List;
@@ -25,6 +25,12 @@ const EXAMPLE: [Pair; 2] = [
     [Slot { facts: 0, previous: 0, ..valid(1, 1) }, nothing(BLANK)],
     [Slot { facts: 0, own: 0x2222_2222, previous: 0x3333_3333, ..valid(2, 2) }, bad_header(0x4444_4444)],
 ];
+
+/// The pair with another owner in a slot.
+const fn by_other(mut pair: Pair, slot: usize) -> Pair {
+    pair[slot].owner = OTHER_OWNER;
+    pair
+}
 
 /// Clean mark and pairs.
 const ROWS: &[(u8, &[Pair])] = &[
@@ -64,6 +70,13 @@ const ROWS: &[(u8, &[Pair])] = &[
     // Refused
     (1, &[SOUND_A, REFUSED_A, TORN_HEADER_A]),
     (1, &[REFUSED_B]),
+    // Owners: another page's, pair 0's, of pages beside a volume record without a winner, of an older slot and of a page. Slots in
+    // flight have another one in all rows
+    (0, &[SOUND_A, FIRST, by_other(SOUND_B, 1)]),
+    (0, &[by_other(SOUND_A, 0), SOUND_B, FIRST]),
+    (0, &[LOST_NUMBER, by_other(FIRST, 0), SOUND_A]),
+    (0, &[SOUND_A, by_other(SOUND_B, 0), by_other(FIRST, 1)]),
+    (0, &[SOUND_A, by_other(TORN_PAYLOAD_A, 1), by_other(FIRST, 0)]),
     // Facts that show too little or too much
     (0, &[FIRST, [valid(2, 2), Slot { facts: 0, ..bad_header(7) }]]),
     (0, &[FIRST, [valid(2, 2), Slot { code: BAD_HEADER, ..bad_payload(9, 9, 9) }]]),

@@ -5,7 +5,7 @@
 //! | enc | FIELDS, BUFFER, payload | refusal (1), where not refused header checksum (4) and SLOT |
 //! | val | PLACE, SLOT | status (1), the nine numbers found (8 each) |
 //! | fac | PLACE, SLOT | facts (1), the four numbers found (8 each) |
-//! | frm | PLACE, SLOT | status (1), the part (26) |
+//! | frm | PLACE, SLOT | status (1), the part (34) |
 //! | dec | SIDE of A, SIDE of B | refusal (1), where not refused the report (5) |
 //!
 //! The widths in bytes are in brackets.

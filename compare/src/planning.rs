@@ -4,7 +4,9 @@ use crate::counts::{Answer, Function};
 use crate::faults::IMPOSSIBLE_LOG2S;
 use crate::ffi_pair::PairIdentity;
 use crate::ffi_plan::{self, Written};
-use crate::frames::{packed, random_row, Pair, Slot, BLANK, FIRST, FORMS, FRAME, HALF, MOST_LENGTHS, SOUND_A, VALID};
+use crate::frames::{
+    nothing, packed, random_row, Pair, BLANK, FIRST, FORMS, FRAME, HALF, MOST_LENGTHS, SOUND_A, VALID,
+};
 use crate::judge_reference::MOST_PAIRS;
 use crate::lent::{Lent, LentCell};
 use crate::outcome::{answer, filled, Call, Expected, Held};
@@ -76,7 +78,7 @@ fn sweep(run: &mut Run) -> Checked {
 
 /// Every form of a pair, alone and beside others, as it is and with the last numbers and generations.
 fn every_form(run: &mut Run) -> Checked {
-    for form in FORMS.iter().chain(&[[slot(BLANK), slot(BLANK)]]) {
+    for form in FORMS.iter().chain(&[[nothing(BLANK); 2]]) {
         for pair in spellings(*form) {
             for (row, at) in [(vec![pair], 0), (vec![FIRST, pair], 1), (vec![pair, SOUND_A], 0), (vec![pair, pair], 1)]
             {
@@ -88,10 +90,6 @@ fn every_form(run: &mut Run) -> Checked {
         }
     }
     Ok(())
-}
-
-fn slot(code: u8) -> Slot {
-    Slot { code, facts: 0, generation: 0, number: 0, own: 0, previous: 0 }
 }
 
 /// A pair as it is, and with the last number or the last generation in either slot or in both.

@@ -5,7 +5,7 @@
 use crate::counts::{Answer, Counts, Function};
 use crate::frames::{packed, row_of};
 use crate::judge_reference::{MOST_PAIRS, NO_PAIR, TOO_MANY_PAIRS, VERDICT, VERDICTS_LEN};
-use crate::judging::{count_verdicts, judgement_answer, JUDGEMENTS, VERDICTS};
+use crate::judging::{count_verdicts, judgement_answer, owners_answer, JUDGEMENTS, VERDICTS, WINNERS};
 use crate::list::List;
 use crate::list_judge::{both, over_frames, over_records};
 use crate::part::{Checked, Report, Run};
@@ -16,6 +16,7 @@ use std::process::ExitCode;
 const ROWS: &str = "judge over rows";
 const VOLUME: &str = "judge over rows: volume";
 const PAGE: &str = "judge over rows: page";
+const OWNERS: &str = "judge over rows: owners";
 
 const REFUSALS: &[Answer] = &[Answer::Refusal(NO_PAIR), Answer::Refusal(TOO_MANY_PAIRS), Answer::Refusal(VERDICTS_LEN)];
 
@@ -24,7 +25,7 @@ const REFUSALS: &[Answer] = &[Answer::Refusal(NO_PAIR), Answer::Refusal(TOO_MANY
 const LONGEST_ROW: usize = 2 * MOST_PAIRS;
 const LONGEST_LIST: usize = 131_072;
 const FEW_PAIRS: usize = 5;
-const LONGEST_LINE: usize = 700;
+const LONGEST_LINE: usize = 900;
 
 pub fn run(program: &str, seed: u64, lists: u64) -> ExitCode {
     println!("seed {seed:#x}");
@@ -33,6 +34,7 @@ pub fn run(program: &str, seed: u64, lists: u64) -> ExitCode {
         Function::new(ROWS, JUDGEMENTS),
         Function::part(VOLUME, VERDICTS),
         Function::part(PAGE, VERDICTS),
+        Function::part(OWNERS, WINNERS),
     ];
     let mut run = Run { rng: Rng::new(seed), counts: Counts::new(functions.iter()) };
     for number in 0..lists {
@@ -98,6 +100,7 @@ fn judged_row(run: &mut Run, list: &mut List, pairs: usize) {
     let judged = both(list, clean, &frames);
     run.counts.add(ROWS, judgement_answer(&judged));
     count_verdicts(run, [VOLUME, PAGE], &frames, &judged);
+    run.counts.add_part(OWNERS, owners_answer(&frames, &judged));
 }
 
 /// More pairs than are judged: both judges refuse.

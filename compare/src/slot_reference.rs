@@ -142,13 +142,13 @@ pub fn header_facts(slot: &[u8], at: &Identity, numbered: u32) -> (u32, [u64; 4]
 }
 
 /// The code of a slot's status, and the slot's part of a frame: code, facts, generation, number, own checksum, previous
-/// checksum. The fields are those of the info under code 12, else those of the facts.
+/// checksum, owner generation. The fields are those of the info under code 12, else those of the facts, which have no owner generation.
 pub fn frame_slot(slot: &[u8], at: &Identity, numbered: u32) -> (u32, [u8; HALF]) {
     let (code, info) = validate(slot, at, numbered);
     let (shown, facts) = header_facts(slot, at, numbered);
-    let [generation, number, own, previous] = match code {
-        12 => [info[0], info[6], info[2], info[3]],
-        _ => [facts[1], facts[2], facts[0], facts[3]],
+    let [generation, number, own, previous, owner] = match code {
+        12 => [info[0], info[6], info[2], info[3], info[1]],
+        _ => [facts[1], facts[2], facts[0], facts[3], 0],
     };
     let part = Slot {
         code: code as u8,
@@ -157,6 +157,7 @@ pub fn frame_slot(slot: &[u8], at: &Identity, numbered: u32) -> (u32, [u8; HALF]
         number,
         own: own as u32,
         previous: previous as u32,
+        owner,
     };
     (code, part.packed())
 }

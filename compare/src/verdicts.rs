@@ -24,7 +24,7 @@ const ANSWERS: &[Answer] = &[
 
 /// The most bytes that the program takes, and the most frames that such a text has.
 const LONGEST: usize = 65_536;
-const MOST_LINES: usize = 624;
+const MOST_LINES: usize = (LONGEST - MARK_LINE) / FRAME_LINE;
 
 /// A mark's line and a frame's, with their newlines.
 const MARK_LINE: usize = 3;
@@ -32,9 +32,9 @@ const FRAME_LINE: usize = 2 * FRAME + 1;
 
 /// A store whose second pair has a torn header in B, and what is printed of it.
 const EXAMPLE: &str = "00\n\
-    0c000100000000000000010000000000000011111111000000000200000000000000000000000000000000000000000000000000\n\
-    0c000200000000000000020000000000000022222222333333330401000000000000000000000000000000004444444400000000\n";
-const EXAMPLE_OUTPUT: &str = "00010001\n00010003\n0201000000010000\n";
+    0c00010000000000000001000000000000001111111100000000000000000000000002000000000000000000000000000000000000000000000000000000000000000000\n\
+    0c00020000000000000002000000000000002222222233333333000000000000000004010000000000000000000000000000000044444444000000000000000000000000\n";
+const EXAMPLE_OUTPUT: &str = "00010001\n00010003\n020100000001000000\n";
 
 /// Texts that no change of a good one gives.
 const SHORT_TEXTS: &[&str] = &[
@@ -295,9 +295,9 @@ fn value(digit: u8) -> Option<u8> {
 
 fn judged_lines(judged: &Judged) -> String {
     let verdicts: Vec<String> = judged.verdicts.chunks(VERDICT).map(|verdict| hex(verdict) + "\n").collect();
-    let [slot, pair, writable, clean, refused] = judged.judgement;
+    let [slot, pair, writable, clean, refused, differ] = judged.judgement;
     let pair = hex(&(pair as u32).to_le_bytes());
-    format!("{}{slot:02x}{pair}{writable:02x}{clean:02x}{refused:02x}\n", verdicts.concat())
+    format!("{}{slot:02x}{pair}{writable:02x}{clean:02x}{refused:02x}{differ:02x}\n", verdicts.concat())
 }
 
 /// The first end of the input is the end of the text: one more character after it, and an end again, change nothing.

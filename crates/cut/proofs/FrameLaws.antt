@@ -23,7 +23,7 @@ use Rattle.cut.proofs.StatusLaws.{valid_is}
 -- ---- what is read from bytes fits
 
 zeros_fit : VersionFits (version_of_facts None)
-zeros_fit = record { generation = lit< tt; number = lit< tt; own = lit< tt; prev = lit< tt }
+zeros_fit = record { generation = lit< tt; number = lit< tt; own = lit< tt; prev = lit< tt; owner = lit< tt }
 
 module _ (s : List ℕ) (e : Expect) (all : AllBytes s) where
   facts_fit : VersionFits (version_of_facts (header_facts s e))
@@ -40,9 +40,9 @@ module _ (s : List ℕ) (e : Expect) (all : AllBytes s) where
                 None;
           }))))
       stored_fits false passed = zeros_fit
-      stored_fits true false = record { generation = lit< tt; number = lit< tt; own = le32_lt s all 8; prev = lit< tt }
+      stored_fits true false = record { generation = lit< tt; number = lit< tt; own = le32_lt s all 8; prev = lit< tt; owner = lit< tt }
       stored_fits true true =
-          record { generation = le64_lt s all 56; number = le64_lt s all 96; own = le32_lt s all 8; prev = le32_lt s all 80 }
+          record { generation = le64_lt s all 56; number = le64_lt s all 96; own = le32_lt s all 8; prev = le32_lt s all 80; owner = lit< tt }
 
       go : (long zeros past : Bool) → VersionFits (version_of_facts
           (cond (not long) None (cond zeros None (facts_read s e (cond past None (Some (header s)))))))
@@ -57,7 +57,13 @@ module _ (s : List ℕ) (e : Expect) (all : AllBytes s) where
       go : (status : SlotStatus) → validate s e ≡ status → VersionFits (version_by (info status) (header_facts s e))
       go (SlotStatus.Valid i) is =
           rw (valid_is s e i is).info_is
-          (record { generation = le64_lt s all 56; number = le64_lt s all 96; own = le32_lt s all 8; prev = le32_lt s all 80 })
+          (record {
+            generation = le64_lt s all 56;
+            number = le64_lt s all 96;
+            own = le32_lt s all 8;
+            prev = le32_lt s all 80;
+            owner = le64_lt s all 88;
+          })
       go _ is = facts_fit
 
 pub record PairTyped (p : Pair) : Type 0 where

@@ -112,12 +112,12 @@ NoneInOrder =
 
 -- ---- the frames
 
--- Where nothing is given, and where only the own checksum is given, a part of a frame holds what the host left in the other fields:
--- NothingGiven and ChecksumGiven of the judge's crate.
+-- Where nothing is given, where only the own checksum is, and where all is but the owner generation, a part of a frame holds what the host
+-- left in the other fields: NothingGiven, ChecksumGiven and NumbersGiven of the judge's crate.
 
 -- A host that leaves zeros there.
 abbrev pub zeros : Version
-zeros = record { generation = 0; meta_seq = 0; header_crc32c = 0; prev_header_crc32c = 0 }
+zeros = record { generation = 0; meta_seq = 0; header_crc32c = 0; prev_header_crc32c = 0; owner_generation = 0 }
 
 -- Then a pair's frame is the bytes of the parts that `SlotPart::new` gives, A's and then B's.
 abbrev pub PairFrame : Type 0

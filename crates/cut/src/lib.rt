@@ -4,7 +4,7 @@
 
 ghost use Rattle.std.specs.Prelude.{◌≡◌, List, ℕ};
 ghost use Rattle.pair.specs.Winner.{read_pair};
-ghost use Rattle.judge.specs.Same.{NothingGiven, ChecksumGiven};
+ghost use Rattle.judge.specs.Same.{NothingGiven, ChecksumGiven, NumbersGiven};
 ghost use Rattle.cut.specs.Store.{Pair};
 ghost use Rattle.cut.specs.Cut.{CutTheorem, PayloadIs};
 ghost use Rattle.cut.specs.Laws.{VolumeRefused, PageRefused, Encoded, EachSector, AnySectors, UnmarkedRecord, UnmarkedStore, PageHanded, TornHanded, WholeHanded, FailedSum, FailedPayload, OlderAtMost, OlderSurvived, OldHeaderKept, NoneInOrder, PairFrame, OnePayload, HasSlots};
@@ -71,10 +71,11 @@ pub fn cut_in_order()
 {}
 
 // The frames are the bytes that the library fills, with what the host left in the other fields.
-#[tactic(auto, using(judge::proofs::PartLaws::nothing_given, judge::proofs::PartLaws::checksum_alone, crate::proofs::StatementLaws::pair_frame))]
+#[tactic(auto, using(judge::proofs::PartLaws::nothing_given, judge::proofs::PartLaws::checksum_alone, judge::proofs::PartLaws::numbers_alone, crate::proofs::StatementLaws::pair_frame))]
 pub fn frames()
     ensures kept { NothingGiven }
     ensures kept_beside_checksum { ChecksumGiven }
+    ensures kept_beside_numbers { NumbersGiven }
     ensures filled { PairFrame }
 {}
 

@@ -25,7 +25,7 @@ use Rattle.cut.proofs.StatementLaws.{page_handed}
 use Rattle.cut_examples.specs.Stores.{volume_record, page_record, zeros_for, volume_fields, volume_pair, first_page, second_fields, second_page, later_page}
 use Rattle.cut_examples.specs.Writes.{write_to, page_write, volume_write, second_write, later_write}
 use Rattle.cut_examples.proofs.Writes.{summed_slot, summed_is, none_refused, volume_sum, second_sum, volume_handed, old_page, new_page, blank_bytes, marked_bytes, next_page, newer_slot, later_slot, old_page_is, new_page_is, marked_bytes_is, next_page_is, newer_slot_is, later_slot_is, page_accepted, volume_accepted}
-use Rattle.cut_examples.specs.Computed.{JudgedAs, Computed, blank_read, bad_magic, torn_header, torn_payload, valid_read}
+use Rattle.cut_examples.specs.Computed.{writable_store, JudgedAs, Computed, blank_read, bad_magic, torn_header, torn_payload, valid_read}
 use Rattle.cut_examples.specs.Cuts.{old_records, older_read, torn_page, new_read, PageCuts, torn_volume, marked_read, VolumeCuts, damaged_volume, MagicCuts, OtherCuts}
 use Rattle.cut_examples.proofs.SlotsRead.{PairRecord, more, none, read_once, read_once_is, framed_row, pair_record, judged_row, computed_row}
 
@@ -113,7 +113,7 @@ row_with x = frames_of (framed_row (record { a = volume_read; b = blank_read } �
 -- and what is judged of them and read back, where the judge is handed false;
 pub judged_with : {p : Pair} (s : Slot) {slot : SlotRead} {x : PairRead} {r : List ℕ} → slot_read s ≡ slot → PairRecord p x r
     → {heal : Option (ℕ × SlotIndex)} {verdict : List ℕ}
-    → judge_frames (row_with x) 0 12 ≡ Ok (record { heal = heal; writable = true; clean = false; refused = false })
+    → judge_frames (row_with x) 0 12 ≡ Ok (writable_store heal false)
     → frames_left (row_with x) 0 (replicate 12 0) ≡ verdict
     → JudgedAs (volume_pair ∷ p ∷ second_page ∷ []) s false slot heal false verdict (volume_record false ∷ r ∷ page_record 1 0 ∷ [])
 judged_with s read pair = judged_row s read (more volume_pair_read (more pair (more second_page_read none)))
@@ -122,7 +122,7 @@ judged_with s read pair = judged_row s read (more volume_pair_read (more pair (m
 pub page_at : {p : Pair} {f : SlotFields} {payload : List ℕ} {tear : Tear} {slot : SlotRead} {x : PairRead} {r : List ℕ}
     → Written (write_to (volume_pair ∷ []) p (second_page ∷ []) f payload tear) slot x r
     → {heal : Option (ℕ × SlotIndex)} {verdict : List ℕ}
-    → judge_frames (row_with x) 0 12 ≡ Ok (record { heal = heal; writable = true; clean = false; refused = false })
+    → judge_frames (row_with x) 0 12 ≡ Ok (writable_store heal false)
     → frames_left (row_with x) 0 (replicate 12 0) ≡ verdict
     → Computed (write_to (volume_pair ∷ []) p (second_page ∷ []) f payload tear) slot heal false verdict (volume_record false ∷ r ∷ page_record 1 0 ∷ [])
 page_at {p} {f} {payload} {tear} written =
@@ -162,7 +162,7 @@ module _ (k : ℕ) (x : SlotRead) (read : read_once (cut k marked_bytes blank_by
       (record { a = volume_read; b = x } ∷ record { a = older_read; b = newer_read } ∷ record { a = second_read; b = blank_read } ∷ []))
 
   volume_at : {heal : Option (ℕ × SlotIndex)} {clean : Bool} {verdict : List ℕ}
-      → judge_frames volume_row (mark shut) 12 ≡ Ok (record { heal = heal; writable = true; clean = clean; refused = false })
+      → judge_frames volume_row (mark shut) 12 ≡ Ok (writable_store heal clean)
       → frames_left volume_row (mark shut) (replicate 12 0) ≡ verdict
       → Computed (volume_write k) x heal clean verdict (r ∷ page_record 0 2 ∷ page_record 1 0 ∷ [])
   volume_at =

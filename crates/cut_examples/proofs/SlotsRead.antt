@@ -19,7 +19,7 @@ use Rattle.cut.specs.Store.{Decoder, Slot, Pair, slot_at, accepts, slot_read, fr
 use Rattle.cut.specs.Cut.{Write, left, with_bytes, after, handed, PayloadIs}
 use Rattle.cut.proofs.PairLaws.{won_payload}
 use Rattle.cut_examples.specs.Stores.{rest}
-use Rattle.cut_examples.specs.Computed.{AllRead, JudgedAs, Computed}
+use Rattle.cut_examples.specs.Computed.{AllRead, writable_store, JudgedAs, Computed}
 
 -- ---- slots as they are read
 
@@ -110,7 +110,7 @@ row_back (more pair row) = AllRead.more pair.back pair.accepted (row_back row)
 -- What is judged and read back where the slots of the pairs are read as xs.
 pub judged_row : {ps : List Pair} (s : Slot) {given : Bool} {slot : SlotRead} {xs : List PairRead} {rs : List (List ℕ)} {heal : Option (ℕ × SlotIndex)} {clean : Bool} {verdict : List ℕ}
     → slot_read s ≡ slot → RowRecords ps xs rs
-    → judge_frames (frames_of (framed_row xs)) (mark given) 12 ≡ Ok (record { heal = heal; writable = true; clean = clean; refused = false })
+    → judge_frames (frames_of (framed_row xs)) (mark given) 12 ≡ Ok (writable_store heal clean)
     → frames_left (frames_of (framed_row xs)) (mark given) (replicate 12 0) ≡ verdict
     → JudgedAs ps s given slot heal clean verdict rs
 judged_row s read row answer written =
@@ -119,7 +119,7 @@ judged_row s read row answer written =
 pub computed_row : (w : Write) {slot : SlotRead} {xs : List PairRead} {rs : List (List ℕ)} {clean_mark : Bool} {heal : Option (ℕ × SlotIndex)} {clean : Bool} {verdict : List ℕ}
     → slot_read (with_bytes (left w) (slot_at w.index w.pair)) ≡ slot
     → RowRecords (after w) xs rs → handed w ≡ clean_mark
-    → judge_frames (frames_of (framed_row xs)) (mark clean_mark) 12 ≡ Ok (record { heal = heal; writable = true; clean = clean; refused = false })
+    → judge_frames (frames_of (framed_row xs)) (mark clean_mark) 12 ≡ Ok (writable_store heal clean)
     → frames_left (frames_of (framed_row xs)) (mark clean_mark) (replicate 12 0) ≡ verdict
     → Computed w slot heal clean verdict rs
 computed_row w read row mark_is answer written =

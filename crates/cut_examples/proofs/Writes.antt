@@ -74,7 +74,7 @@ module _ (log2 object : ℕ) (index : SlotIndex) (generation prev number : ℕ) 
           volume_bytes = bytes_tested (replicate 16 7) refl;
           object = fits.object;
           offset = fits.offset;
-          rest = record { generation = lit< tt; number = lit< tt; own = lit< tt; prev = lit< tt };
+          rest = record { generation = lit< tt; number = lit< tt; own = lit< tt; prev = lit< tt; owner = lit< tt };
         }
 
     module _ (payload : List ℕ) (all : AllBytes payload) (none : encode_check f payload (2 ^ log2) ≡ Ok tt) (numbered : number_ok 2 true number ≡ true) where

@@ -7,6 +7,7 @@ use Rattle.slot.specs.declared.slot.HeaderFacts.{HeaderFacts}
 use Rattle.judge.specs.Frames.{judge_frames, frames_left}
 use Rattle.judge.specs.Same.{mark}
 use Rattle.judge.specs.declared.records.SlotRead.{SlotRead}
+use Rattle.judge.specs.declared.verdict.Judgement.{Judgement}
 use Rattle.cut.specs.Store.{Slot, Pair, slot_at, accepts, frames, slot_read}
 use Rattle.cut.specs.Cut.{Write, left, with_bytes, after, handed, PayloadIs}
 
@@ -18,11 +19,15 @@ pub data AllRead : List Pair → List (List ℕ) → Type 0 where
   more : {p : Pair} {ps : List Pair} {r : List ℕ} {rs : List (List ℕ)}
       → PayloadIs p r → accepts p.decoder r ≡ true → AllRead ps rs → AllRead (p ∷ ps) (r ∷ rs)
 
--- Of three pairs one slot is read so; the judge, handed this mark, answers this heal and this clean mark, writable and not refused, and
--- writes these verdicts, four bytes a pair: standing, winner, A, B; and these records are read back.
+-- The judgement on a store that may be written, whose winners have one owner.
+abbrev pub writable_store : Option (ℕ × SlotIndex) → Bool → Judgement
+writable_store heal clean = record { heal = heal; writable = true; clean = clean; refused = false; owners_differ = false }
+
+-- Of three pairs one slot is read so; the judge, handed this mark, answers this heal and this clean mark of such a store, and writes these
+-- verdicts, four bytes a pair: standing, winner, A, B; and these records are read back.
 pub record JudgedAs (ps : List Pair) (s : Slot) (given : Bool) (slot : SlotRead) (heal : Option (ℕ × SlotIndex)) (clean : Bool) (verdict : List ℕ) (records : List (List ℕ)) : Type 0 where
   pub read : slot_read s ≡ slot
-  pub answer : judge_frames (frames ps) (mark given) 12 ≡ Ok (record { heal = heal; writable = true; clean = clean; refused = false })
+  pub answer : judge_frames (frames ps) (mark given) 12 ≡ Ok (writable_store heal clean)
   pub written : frames_left (frames ps) (mark given) (replicate 12 0) ≡ verdict
   pub back : AllRead ps records
 

@@ -85,6 +85,7 @@ rest =
       meta_seq = 0xffff_ffff_ffff_ffff;
       header_crc32c = 0xffff_ffff;
       prev_header_crc32c = 0xffff_ffff;
+      owner_generation = 0xffff_ffff_ffff_ffff;
     }
 
 -- The slots of an object lie one after the other, and those of the next object of their size after them.

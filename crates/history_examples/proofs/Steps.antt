@@ -24,7 +24,7 @@ use Rattle.cut.specs.Cut.{Tear, Write, new, left, header_passes}
 use Rattle.cut.proofs.StatusLaws.{false_true}
 use Rattle.plan.specs.Numbers.{highest_winner}
 use Rattle.cut_examples.specs.Stores.{volume_record, page_record, volume_pair, second_page, read_with}
-use Rattle.cut_examples.specs.Computed.{blank_read}
+use Rattle.cut_examples.specs.Computed.{writable_store, blank_read}
 use Rattle.cut_examples.proofs.Writes.{write_correct}
 use Rattle.cut_examples.proofs.SlotsRead.{PairRecord, more, none, row_framed}
 use Rattle.cut_examples.proofs.Computed.{volume_read, second_read, volume_pair_read, second_page_read, row_with, judged_with}
@@ -64,7 +64,7 @@ module _ (t : Tracked) {x : PairRead} {r : List ℕ} (pair : PairRecord t.pair x
       }
 
   pub state_by : {heal : Option (ℕ × SlotIndex)} {verdict : List ℕ} {known : List (List ℕ)}
-      → judge_frames (row_with x) 0 12 ≡ Ok (record { heal = heal; writable = true; clean = false; refused = false })
+      → judge_frames (row_with x) 0 12 ≡ Ok (writable_store heal false)
       → frames_left (row_with x) 0 (replicate 12 0) ≡ verdict
       → t.known ≡ known
       → StateIs t x.a heal verdict (volume_record false ∷ r ∷ page_record 1 0 ∷ []) known

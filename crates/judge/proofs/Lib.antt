@@ -1,7 +1,9 @@
 pub mod NumberLaws
 pub mod PassLaws
 pub mod RowLaws
+pub mod OwnerLaws
 pub mod FrameLaws
 pub mod HealLaws
 pub mod PartLaws
 pub mod SameLaws
+pub mod AlikeLaws

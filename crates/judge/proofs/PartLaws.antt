@@ -9,7 +9,7 @@ use Rattle.judge.specs.declared.pairs.Version.{Version}
 use Rattle.judge.specs.declared.part.SlotPart.{SlotPart}
 use Rattle.judge.specs.Part.{part_width, part_of, part_bytes, part_at, part_status, part_shown, is_in_range, facts_number}
 use Rattle.judge.specs.Records.{shown_of}
-use Rattle.judge.specs.Same.{filled, NothingGiven, ChecksumGiven, VersionFits}
+use Rattle.judge.specs.Same.{filled, NothingGiven, ChecksumGiven, NumbersGiven, VersionFits}
 
 -- ---- what it shows, and its range
 
@@ -46,6 +46,7 @@ filled-fits rest p own other =
       number = either-below _ _ _ _ own.number other.number;
       own = either-below _ _ _ _ own.own other.own;
       prev = either-below _ _ _ _ own.prev other.prev;
+      owner = either-below _ _ _ _ own.owner other.owner;
     }
 
 pub nothing_given : NothingGiven
@@ -55,6 +56,10 @@ nothing_given rest c not_valid = simp (ne_eqb _ _ not_valid)
 pub checksum_alone : ChecksumGiven
 unfolding filled
 checksum_alone rest c own not_valid = simp (ne_eqb _ _ not_valid)
+
+pub numbers_alone : NumbersGiven
+unfolding filled
+numbers_alone rest c own n not_valid = simp (ne_eqb _ _ not_valid)
 
 -- ---- its bytes
 
@@ -69,7 +74,8 @@ pub part-read : (s t : List ℕ) (at : ℕ) (p : SlotPart) → VersionFits p.ver
 unfolding part_bytes
 part-read s t at p fits r =
     let v = p.version in
-    let prev : List ℕ = to_le_bytes w32 v.prev_header_crc32c ++ t in
+    let owner : List ℕ = to_le_bytes w64 v.owner_generation ++ t in
+    let prev : List ℕ = to_le_bytes w32 v.prev_header_crc32c ++ owner in
     let own : List ℕ = to_le_bytes w32 v.header_crc32c ++ prev in
     let seq : List ℕ = to_le_bytes w64 v.meta_seq ++ own in
     let all : List ℕ = to_le_bytes w64 v.generation ++ seq in
@@ -80,5 +86,7 @@ part-read s t at p fits r =
       value_u64 v.generation seq fits.generation (onward 2 (p.code ∷ p.facts ∷ []) all refl r),
       value_u64 v.meta_seq own fits.number (onward 10 head seq refl r),
       value_u32 v.header_crc32c prev fits.own (onward 18 (head ++ to_le_bytes w64 v.meta_seq) own refl r),
-      value_u32 v.prev_header_crc32c t fits.prev (onward 22 (head ++ to_le_bytes w64 v.meta_seq ++ to_le_bytes w32 v.header_crc32c) prev refl r),
+      value_u32 v.prev_header_crc32c owner fits.prev (onward 22 (head ++ to_le_bytes w64 v.meta_seq ++ to_le_bytes w32 v.header_crc32c) prev refl r),
+      value_u64 v.owner_generation t fits.owner
+          (onward 26 (head ++ to_le_bytes w64 v.meta_seq ++ to_le_bytes w32 v.header_crc32c ++ to_le_bytes w32 v.prev_header_crc32c) owner refl r),
     )

@@ -15,6 +15,7 @@ use Rattle.judge.specs.Numbers.{slots}
 use Rattle.judge.specs.Maxima.{no_maxima, note_all}
 use Rattle.judge.specs.Verdict.{in_flight}
 use Rattle.judge.specs.Judge.{demoted, pair_heal, first_verdicts, first_tally, volume_verdict, store_rules, last_verdicts, writable, row_rules, verdicts, judgement, unless, left}
+use Rattle.judge.specs.Owners.{owners, any_two_differ}
 use Rattle.judge.specs.Passes.{verdicts_by, no_tally, tallies, heals}
 use Rattle.judge.specs.Same.{mark}
 use Rattle.judge.proofs.PassLaws.{verdicts-same, tally-same, heals-same}
@@ -28,17 +29,19 @@ head-is : (vs : List PairVerdict) (v : PairVerdict) → slice_get vs 0 ≡ Some 
 head-is [] v is = cc
 head-is (x ∷ vs) v is = cc
 
--- One verdict more is settled, and one less is left.
-module _ {C : Type 0} (cell : PairVerdict → C) (read : C → PairVerdict) where
-  left-step : (cs : List C) (i : ℕ) (v : PairVerdict) → slice_get (map read cs) i ≡ Some v → map read (drop i cs) ≡ v ∷ map read (drop (suc i) cs)
-  left-step [] i v is = cc
-  left-step (c ∷ cs) zero v is = cc
-  left-step (c ∷ cs) (suc i) v is = left-step cs i v is
+-- One verdict less is left,
+pub left-step : {C : Type 0} (read : C → PairVerdict) (cs : List C) (i : ℕ) (v : PairVerdict) → slice_get (map read cs) i ≡ Some v
+    → map read (drop i cs) ≡ v ∷ map read (drop (suc i) cs)
+left-step read [] i v is = cc
+left-step read (c ∷ cs) zero v is = cc
+left-step read (c ∷ cs) (suc i) v is = left-step read cs i v is
 
+-- and one more is settled.
+module _ {C : Type 0} (cell : PairVerdict → C) (read : C → PairVerdict) where
   pub settled : (cs new : List C) (i : ℕ) (v w : PairVerdict) → i < length cs → slice_get (map read cs) i ≡ Some v → new ≡ set cs i (cell w)
       → (map read (drop i cs) ≡ v ∷ map read (drop (i + 1) new)) × (take (i + 1) new ≡ take i cs ++ cell w ∷ [])
   settled cs new i v w within is new-is = (
-    left-step cs i v is ∙ rw (new-is, drop-set-lt (i + 1) cs i (cell w) (omega arith), add-one),
+    left-step read cs i v is ∙ rw (new-is, drop-set-lt (i + 1) cs i (cell w) (omega arith), add-one),
     rw (new-is, take_more_set cs i (cell w) within),
   )
 
@@ -68,7 +71,7 @@ module _ {C : Type 0} (cell : PairVerdict → C) (read : C → PairVerdict) wher
   -- One verdict more stays, and one less is left.
   pub stayed : (cs : List C) (i : ℕ) (v : PairVerdict) → AllHold cs → slice_get (map read cs) i ≡ Some v
       → (map read (drop i cs) ≡ v ∷ map read (drop (i + 1) cs)) × (take (i + 1) cs ≡ take i cs ++ cell v ∷ [])
-  stayed cs i v hold is = (left-step cell read cs i v is ∙ rw add-one, rw add-one (keeps cs i v hold is))
+  stayed cs i v hold is = (left-step read cs i v is ∙ rw add-one, rw add-one (keeps cs i v hold is))
 
   pub put-holds : ((v : PairVerdict) → read (cell v) ≡ v) → (cs : List C) (i : ℕ) (w : PairVerdict) → AllHold cs → AllHold (set cs i (cell w))
   put-holds back [] i w hold = refl
@@ -125,17 +128,21 @@ module _ {C : Type 0} (cell : PairVerdict → C) (read : C → PairVerdict) (bac
     pub cells-judged : lasts ≡ map cell (verdicts ps clean)
     cells-judged = lasts-are ∙ rw (first, last-verdicts ps clean m-is t-is volume-is rules-is)
 
-    pub row-judged : {h : Option (ℕ × SlotIndex)} {w : Bool} {last : PairVerdict}
+    pub row-judged : {h : Option (ℕ × SlotIndex)} {w differ : Bool} {last : PairVerdict}
         → h ≡ heals 0 None (last_verdicts rules.volume_demote rules.page_demote (map read firsts))
         → slice_get (map read lasts) 0 ≡ Some last
         → w ≡ writable t.refused t.page_had_candidate volume.standing last.standing
-        → ◌≡◌ {A = Judgement} (record { heal = h; writable = w; clean = rules.clean; refused = t.refused }) (judgement ps clean)
+        → differ ≡ any_two_differ (owners ps (map read lasts))
+        → ◌≡◌ {A = Judgement} (record { heal = h; writable = w; clean = rules.clean; refused = t.refused; owners_differ = differ })
+        (judgement ps clean)
     unfolding judgement first_tally
-    row-judged {last = last} h-is last-is w-is =
+    row-judged {last = last} h-is last-is w-is differ-is =
         let judged : map read lasts ≡ verdicts ps clean = ap (map read) cells-judged ∙ read-all cell read back (verdicts ps clean) in
         let last-one = head-is (map read lasts) last last-is ∙ ap volume_verdict judged in
         rw (
           w-is,
+          differ-is,
+          judged,
           h-is,
           heals-same,
           first,

@@ -14,6 +14,7 @@ use Rattle.judge.specs.declared.verdict.Tally.{Tally}
 use Rattle.judge.specs.declared.verdict.StoreRules.{StoreRules}
 use Rattle.judge.specs.declared.verdict.Judgement.{Judgement}
 use Rattle.judge.specs.declared.verdict.JudgeError.{JudgeError}
+use Rattle.judge.specs.Owners.{owners, any_two_differ}
 use Rattle.judge.specs.Verdict.{by_index, no_winner, pair_verdict, is_in_flight, in_flight, is_confirmed, is_refused, is_unconfirmed, is_without_winner}
 
 -- ---- the first pass
@@ -130,6 +131,7 @@ judgement ps clean =
           (volume_verdict (verdicts ps clean)).standing;
       clean = (row_rules ps clean).clean;
       refused = any_refused (first_verdicts ps);
+      owners_differ = any_two_differ (owners ps (verdicts ps clean));
     }
 
 -- ---- what is lent for it

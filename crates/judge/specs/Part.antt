@@ -15,7 +15,7 @@ use Rattle.judge.specs.declared.part.SlotPart.{SlotPart}
 
 -- The width of a slot's part.
 abbrev pub part_width : ℕ
-part_width = 26
+part_width = 34
 
 -- ---- what it is filled with: under Valid from the slot's info, else from the facts
 
@@ -26,6 +26,7 @@ version_of_info i =
       meta_seq = i.meta_seq;
       header_crc32c = i.header_crc32c;
       prev_header_crc32c = i.prev_header_crc32c;
+      owner_generation = i.owner_generation;
     }
 
 -- And back; what a version does not hold is zero.
@@ -33,7 +34,7 @@ abbrev pub info_of : Version → SlotInfo
 info_of v =
     record {
       generation = v.generation;
-      owner_generation = 0;
+      owner_generation = v.owner_generation;
       header_crc32c = v.header_crc32c;
       prev_header_crc32c = v.prev_header_crc32c;
       ro_compat_flags = 0;
@@ -48,13 +49,15 @@ abbrev pub numbered_of : Version → NumberedHeader
 numbered_of v = record { generation = v.generation; meta_seq = v.meta_seq; prev_header_crc32c = v.prev_header_crc32c }
 
 abbrev pub version_of_header : ℕ → Option NumberedHeader → Version
-version_of_header stored None = record { generation = 0; meta_seq = 0; header_crc32c = stored; prev_header_crc32c = 0 }
+version_of_header stored None =
+    record { generation = 0; meta_seq = 0; header_crc32c = stored; prev_header_crc32c = 0; owner_generation = 0 }
 version_of_header stored (Some n) =
     record {
       generation = n.generation;
       meta_seq = n.meta_seq;
       header_crc32c = stored;
       prev_header_crc32c = n.prev_header_crc32c;
+      owner_generation = 0;
     }
 
 abbrev pub version_of_facts : Option HeaderFacts → Version
@@ -87,6 +90,7 @@ part_bytes p =
     ++ to_le_bytes w64 p.version.meta_seq
     ++ to_le_bytes w32 p.version.header_crc32c
     ++ to_le_bytes w32 p.version.prev_header_crc32c
+    ++ to_le_bytes w64 p.version.owner_generation
 
 abbrev pub part_at : List ℕ → ℕ → SlotPart
 part_at s at =
@@ -99,6 +103,7 @@ part_at s at =
             meta_seq = le64 s (at + 10);
             header_crc32c = le32 s (at + 18);
             prev_header_crc32c = le32 s (at + 22);
+            owner_generation = le64 s (at + 26);
           };
     }
 

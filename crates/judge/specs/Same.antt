@@ -2,16 +2,17 @@
 -- whatever stands in the fields that are not given.
 use Rattle.std.specs.Prelude.{◌≡◌, Bool, true, false, ◌||◌, List, [], ◌∷◌, ◌++◌, ℕ, ◌*◌, ◌^◌, ◌<◌, ◌==◌, nat_le, if◌then◌else◌, map, flat_map, Option, Some, None, ⊤}
 use Rattle.slot.specs.declared.slot.HeaderFacts.{HeaderFacts}
+use Rattle.slot.specs.declared.slot.NumberedHeader.{NumberedHeader}
 use Rattle.judge.specs.declared.pairs.Version.{Version}
 use Rattle.judge.specs.declared.part.SlotPart.{SlotPart}
 use Rattle.judge.specs.declared.verdict.PairVerdict.{PairVerdict}
 use Rattle.judge.specs.declared.records.SlotRead.{SlotRead}
 use Rattle.judge.specs.declared.records.PairRead.{PairRead}
-use Rattle.judge.specs.Part.{version_of_facts, facts_number, part_of, part_bytes}
+use Rattle.judge.specs.Part.{version_of_header, version_of_facts, facts_number, part_of, part_bytes}
 use Rattle.judge.specs.Records.{judge_records, records_left}
 use Rattle.judge.specs.Frames.{verdict_width, row_bytes, judge_frames, frames_left}
 
--- Status 12 and facts 2 give all four numbers, facts 1 the own checksum.
+-- Status 12 gives all fields, facts 2 all but the owner generation, facts 1 the own checksum.
 abbrev pub numbers_given : SlotPart → Bool
 numbers_given p = (p.code == 12) || (p.facts == 2)
 
@@ -30,6 +31,7 @@ filled rest p =
             meta_seq = if numbers_given p then p.version.meta_seq else rest.meta_seq;
             header_crc32c = if checksum_given p then p.version.header_crc32c else rest.header_crc32c;
             prev_header_crc32c = if numbers_given p then p.version.prev_header_crc32c else rest.prev_header_crc32c;
+            owner_generation = if p.code == 12 then p.version.owner_generation else rest.owner_generation;
           };
     }
 
@@ -47,6 +49,13 @@ ChecksumGiven =
     (rest : Version) (c own : ℕ) → (c ≡ 12 → ⊥)
     → filled rest (failed_part c (Some (record { stored_header_crc32c = own; numbered = None })))
     ≡ record { code = c; facts = 1; version = record rest { header_crc32c = own } }
+
+-- Where a header's numbers are given too, it does so in the owner generation alone.
+abbrev pub NumbersGiven : Type 0
+NumbersGiven =
+    (rest : Version) (c own : ℕ) (n : NumberedHeader) → (c ≡ 12 → ⊥)
+    → filled rest (failed_part c (Some (record { stored_header_crc32c = own; numbered = Some n })))
+    ≡ record { code = c; facts = 2; version = record (version_of_header own (Some n)) { owner_generation = rest.owner_generation } }
 
 -- A pair as it was read, and what stands in the fields that are not given, of A and of B.
 pub record Framed : Type 0 where
@@ -72,6 +81,7 @@ pub record VersionFits (v : Version) : Type 0 where
   pub number : v.meta_seq < 2 ^ 64
   pub own : v.header_crc32c < 2 ^ 32
   pub prev : v.prev_header_crc32c < 2 ^ 32
+  pub owner : v.owner_generation < 2 ^ 64
 
 pub record Fits (f : Framed) : Type 0 where
   pub a : VersionFits (part_read f.pair.a).version

@@ -1,6 +1,6 @@
 // The judge over frames in bytes, as a host hands them over.
 //
-// A pair's frame has 52 bytes: the part of slot A, then that of slot B (part).
+// A pair's frame has 68 bytes: the part of slot A, then that of slot B (part).
 //
 // | Verdict, 4 bytes a pair | Field |
 // |---|---|
@@ -10,12 +10,13 @@
 ghost use Rattle.std.specs.Prelude.{◌≡◌, ◌*◌, ◌==◌, length};
 ghost use Rattle.judge.specs.Part.{part_width, part_at};
 ghost use Rattle.judge.specs.Frames.{verdict_width, verdict_bytes, verdict_from, verdict_cells, pair_from, pair_in_range, judge_frames, frames_left, frames_maxima, frames_heal};
+ghost use Rattle.judge.specs.Alike.{FramesAside};
 ghost use Rattle.judge.specs.Examples.{JudgeExamples};
 ghost use Rattle.judge.specs.Table.{Table};
 ghost use Rattle.judge.specs.ReadBack.{reads_back, cells_fit};
 
 use crate::numbers::Maxima;
-use crate::pairs::Pair;
+use crate::pairs::{Pair, Shown};
 use crate::part::{PART, SlotPart};
 use crate::row::{ReadPair, Verdicts};
 use crate::verdict::{JudgeError, Judgement, PairVerdict, SlotVerdict, Standing, choice_from};
@@ -88,6 +89,14 @@ impl ReadPair for [u8; FRAME] {
     #[inline(always)]
     fn pair(&self) -> Pair {
         shown(self)
+    }
+
+    fn slot(&self, index: SlotIndex) -> Shown {
+        let at = match index {
+            SlotIndex::A => 0,
+            SlotIndex::B => PART,
+        };
+        SlotPart::read(self, at).shown()
     }
 }
 
@@ -164,6 +173,12 @@ pub fn heal(frames: &[u8], clean: u8) -> Result<Option<(usize, SlotIndex)>, Judg
     let (pairs, _) = frames.as_chunks::<FRAME>();
     Ok(crate::row::heal(pairs, m, clean == 1))
 }
+
+// Does nothing: its contract is that frames which differ in owner generations alone are judged alike, but for whether the winners' differ.
+#[tactic(auto, using(crate::proofs::AlikeLaws::frames_aside))]
+pub fn owners_law()
+    ensures { FramesAside }
+{}
 
 // Does nothing: its contract is the examples, and the table of a frame's layout and of the numbers.
 #[tactic(auto, unfolding(codec::specs::Bytes::le, crate::specs::Judge::first_verdicts, crate::specs::Judge::first_tally, crate::specs::Judge::row_rules, crate::specs::Judge::verdicts, crate::specs::Judge::judgement, crate::specs::Frames::frames_error, crate::specs::Frames::judge_frames, crate::specs::Frames::frames_left, crate::specs::Part::part_bytes))]

@@ -13,6 +13,8 @@ pub struct Version {
     pub meta_seq: u64,
     pub header_crc32c: u32,
     pub prev_header_crc32c: u32,
+    // Of a Valid slot alone: facts do not show it.
+    pub owner_generation: u64,
 }
 
 // What the judge is told of one slot.

@@ -8,8 +8,9 @@
 // | 10 | 8 | number |
 // | 18 | 4 | own checksum |
 // | 22 | 4 | previous checksum |
+// | 26 | 8 | owner generation |
 //
-// Fields come from the Valid info under status 12, else from the facts; those not given are zero.
+// Fields come from the Valid info under status 12, else from the facts, which show no owner generation; those not given are zero.
 ghost use Rattle.std.specs.Prelude.{◌≡◌, ◌+◌, ◌≤◌, length, take, drop};
 ghost use Rattle.judge.specs.Pairs.{numbered};
 ghost use Rattle.judge.specs.Numbers.{number};
@@ -19,7 +20,7 @@ use crate::pairs::{Shown, Version};
 use slot::slot::{HeaderFacts, NumberedHeader, SlotInfo, SlotStatus};
 
 /// The width of a slot's part.
-pub const PART: usize = 26;
+pub const PART: usize = 34;
 
 // What a frame says of one slot.
 #[derive(Clone, Copy)]
@@ -39,6 +40,7 @@ impl Version {
             meta_seq: info.meta_seq,
             header_crc32c: info.header_crc32c,
             prev_header_crc32c: info.prev_header_crc32c,
+            owner_generation: info.owner_generation,
         }
     }
 
@@ -48,7 +50,7 @@ impl Version {
     {
         SlotInfo {
             generation: self.generation,
-            owner_generation: 0,
+            owner_generation: self.owner_generation,
             header_crc32c: self.header_crc32c,
             prev_header_crc32c: self.prev_header_crc32c,
             ro_compat_flags: 0,
@@ -79,6 +81,7 @@ impl Version {
             meta_seq: 0,
             header_crc32c: 0,
             prev_header_crc32c: 0,
+            owner_generation: 0,
         };
         if let Some(facts) = facts {
             version.header_crc32c = facts.stored_header_crc32c;
@@ -139,10 +142,11 @@ impl SlotPart {
         let n = self.version.meta_seq.to_le_bytes();
         let own = self.version.header_crc32c.to_le_bytes();
         let prev = self.version.prev_header_crc32c.to_le_bytes();
+        let o = self.version.owner_generation.to_le_bytes();
         [
             self.code, self.facts, g[0], g[1], g[2], g[3], g[4], g[5], g[6], g[7], n[0], n[1],
             n[2], n[3], n[4], n[5], n[6], n[7], own[0], own[1], own[2], own[3], prev[0], prev[1],
-            prev[2], prev[3],
+            prev[2], prev[3], o[0], o[1], o[2], o[3], o[4], o[5], o[6], o[7],
         ]
     }
 
@@ -160,6 +164,7 @@ impl SlotPart {
                 meta_seq: u64::from_le_bytes(array_at(frame, at + 10)),
                 header_crc32c: u32::from_le_bytes(array_at(frame, at + 18)),
                 prev_header_crc32c: u32::from_le_bytes(array_at(frame, at + 22)),
+                owner_generation: u64::from_le_bytes(array_at(frame, at + 26)),
             },
         }
     }

@@ -2,12 +2,12 @@
 ghost use Rattle.std.specs.Prelude.{◌≡◌, ◌==◌, length, true, refl};
 ghost use Rattle.judge.specs.Records.{shown_read, pair_read, judge_records, records_left};
 ghost use Rattle.judge.specs.ReadBack.{same_length};
-ghost use Rattle.judge.specs.Same.{NothingGiven, ChecksumGiven, SameJudge, IgnoredFields};
+ghost use Rattle.judge.specs.Same.{NothingGiven, ChecksumGiven, NumbersGiven, SameJudge, IgnoredFields};
 
 use crate::pairs::{Pair, Shown, Version};
 use crate::row::{ReadPair, Verdicts};
 use crate::verdict::{JudgeError, Judgement, PairVerdict};
-use slot::slot::{HeaderFacts, SlotStatus};
+use slot::slot::{HeaderFacts, SlotIndex, SlotStatus};
 
 // One slot as read: its status, and what its header shows.
 #[derive(Clone, Copy)]
@@ -66,6 +66,13 @@ impl ReadPair for PairRead {
         Pair {
             a: self.a.shown(),
             b: self.b.shown(),
+        }
+    }
+
+    fn slot(&self, index: SlotIndex) -> Shown {
+        match index {
+            SlotIndex::A => self.a.shown(),
+            SlotIndex::B => self.b.shown(),
         }
     }
 }
@@ -131,8 +138,9 @@ pub fn ignored_law()
 {}
 
 // Does nothing: its contract is that a frame filled from a slot keeps what stood in the fields which are not given.
-#[tactic(auto, using(crate::proofs::PartLaws::nothing_given, crate::proofs::PartLaws::checksum_alone))]
+#[tactic(auto, using(crate::proofs::PartLaws::nothing_given, crate::proofs::PartLaws::checksum_alone, crate::proofs::PartLaws::numbers_alone))]
 pub fn kept_law()
     ensures nothing { NothingGiven }
     ensures checksum { ChecksumGiven }
+    ensures numbers { NumbersGiven }
 {}

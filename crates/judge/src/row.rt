@@ -1,5 +1,6 @@
-// The judge of a row of pairs, whatever they and the lent verdicts are kept in. The row is gone through three times: for the ranges and
-// the highest numbers, for each pair's own verdict, and for the rules of the whole store. Pair 0 is the volume record.
+// The judge of a row of pairs, whatever they and the lent verdicts are kept in. The row is gone through four times: for the ranges and
+// the highest numbers, for each pair's own verdict, for the rules of the whole store, and for the winners' owners. Pair 0 is the volume
+// record.
 ghost use Rattle.std.specs.Prelude.{◌≡◌, ◌<◌, ◌≤◌, ◌==◌, not, ◌&&◌, ◌-◌, nat_le, nat_lt, ℕ, Bool, List, if◌then◌else◌, length, map, true, Some, None, slice_get, slice_set, OnOk, OnErr};
 ghost use Rattle.std.specs.List.{list_all};
 ghost use Rattle.std.specs.Borrow.{GName};
@@ -9,11 +10,13 @@ ghost use Rattle.judge.specs.declared.verdict.PairVerdict.{PairVerdict};
 ghost use Rattle.judge.specs.Maxima.{no_maxima, note_all};
 ghost use Rattle.judge.specs.Pairs.{numbered};
 ghost use Rattle.judge.specs.Numbers.{number, slots};
+ghost use Rattle.judge.specs.Verdict.{by_index};
+ghost use Rattle.judge.specs.Owners.{owner, owners, any_two_differ};
 ghost use Rattle.judge.specs.Passes.{verdicts_by, no_tally, tallies, heals};
 ghost use Rattle.judge.specs.Judge.{volume_verdict, last_verdicts, judgement, verdicts, most_pairs, error, unless};
 
 use crate::numbers::Maxima;
-use crate::pairs::Pair;
+use crate::pairs::{Pair, Shown};
 use crate::verdict::{JudgeError, Judgement, MOST_PAIRS, PairVerdict, Standing, StoreRules, Tally};
 use slot::slot::SlotIndex;
 
@@ -31,9 +34,13 @@ pub(crate) trait ReadPair {
     fn numbers(&self) -> (u64, u64)
         ensures { result ≡ (number (numbered (shown self.now).a), number (numbered (shown self.now).b)) };
 
-    // What the slots show.
+    // What the slots show,
     fn pair(&self) -> Pair
         ensures { result ≡ shown self.now };
+
+    // and one of them.
+    fn slot(&self, index: SlotIndex) -> Shown
+        ensures { result ≡ by_index index (shown self.now).a (shown self.now).b };
 }
 
 // Lent verdicts, in the form that a caller has.
@@ -163,6 +170,34 @@ pub(crate) fn admit<P: ReadPair>(
     Ok(m)
 }
 
+// The owner generation of a pair's winner.
+fn owner<P: ReadPair>(p: &P, winner: Option<SlotIndex>) -> Option<u64>
+    ensures { result ≡ owner (P.shown p.now) winner }
+{
+    match p.slot(winner?) {
+        Shown::Valid(v) => Some(v.owner_generation),
+        _ => None,
+    }
+}
+
+// Whether two winners, any two, have different ones: each is compared with the first.
+fn owners_differ<P: ReadPair, V: Verdicts>(pairs: &[P], out: &V) -> bool
+    requires { length (V.cells out.now) ≡ length pairs.now }
+    ensures { result ≡ any_two_differ (owners (map P.shown pairs.now) (map V.read (V.cells out.now))) }
+{
+    let mut first = None;
+    for (i, p) in pairs.iter().enumerate() {
+        let Some(owner) = owner(p, out.verdict(i).winner) else {
+            continue;
+        };
+        if owner != first.unwrap_or(owner) {
+            return true;
+        }
+        first = Some(owner);
+    }
+    false
+}
+
 // Judges every pair and writes its verdict. `rest`: a part of a pair follows; `clean` is the volume winner's clean mark, 0 or 1. Nothing is
 // written where there is an error.
 pub(crate) fn judge<P: ReadPair, V: Verdicts>(
@@ -187,6 +222,7 @@ pub(crate) fn judge<P: ReadPair, V: Verdicts>(
         writable: tally.writable(volume.standing, last.standing),
         clean: rules.clean,
         refused: tally.refused,
+        owners_differ: owners_differ(pairs, out),
     })
 }
 

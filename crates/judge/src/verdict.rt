@@ -9,6 +9,7 @@ ghost use Rattle.judge.specs.Maxima.{by_maxima};
 ghost use Rattle.judge.specs.Verdict.{slot_verdict, winner_beside, no_winner, pair_verdict, in_flight};
 ghost use Rattle.judge.specs.Judge.{demoted, demotes, store_rules, writable, pair_heal, HealNames};
 ghost use Rattle.judge.specs.Values.{standing_number, standing_from, slot_verdict_number, slot_verdict_from, choice_from, heal_slot, heal_pair, error_number, NumbersBack};
+ghost use Rattle.judge.specs.Alike.{OwnersAside, LosersUnread};
 ghost use Rattle.judge.specs.Passes.{tallied};
 
 use crate::numbers::Maxima;
@@ -86,6 +87,8 @@ pub struct Judgement {
     pub clean: bool,
     // Some pair is refused: the open fails.
     pub refused: bool,
+    // Two winners, any two, have different owner generations.
+    pub owners_differ: bool,
 }
 
 /// The most pairs of a judgement.
@@ -348,6 +351,14 @@ impl PairVerdict {
 #[tactic(auto, using(crate::proofs::HealLaws::heal_names))]
 pub fn heal_law()
     ensures { HealNames }
+{}
+
+// Does nothing: its contract is that owner generations change no verdict, and of the judgement nothing but whether the winners' differ; and
+// that those of slots that are no winners change nothing at all.
+#[tactic(auto, using(crate::proofs::AlikeLaws::owners_aside, crate::proofs::AlikeLaws::losers_unread))]
+pub fn owners_law()
+    ensures aside { OwnersAside }
+    ensures losers { LosersUnread }
 {}
 
 // Does nothing: its contract is that each number of a standing, a choice, a slot's verdict and a heal is read back as what it is of.

@@ -11,7 +11,7 @@
 // | row | over the row | MARK, frames of at most 224 pairs | refusal (1), verdicts as they were |
 //
 // - MARK: the clean mark (1) and the length of the lent verdicts (2), at most 896.
-// - JUDGEMENT: the slot to heal, its pair, writable, clean, refused (8 each).
+// - JUDGEMENT: the slot to heal, its pair, writable, clean, refused, whether owners differ (8 each).
 // - Verdicts have 4 bytes each. Before the judge over the row is called they are Lost, no winner, Damage and Damage.
 //
 // A refusal of the judge over frames that changes what it was lent is packed as an answer, so that the case differs. Where the judges
@@ -67,7 +67,10 @@ fn over_frames(input: &[u8], answer: &mut Bytes) -> Option<()> {
     let mut judgement = [255u64; JUDGEMENT];
     let refusal = sio_judge(frames, clean, &mut verdicts, &mut judgement);
     answer.try_push(narrow(refusal)).ok()?;
-    if refusal != 0 && verdicts.iter().all(|byte| *byte == 255) && judgement == [255u64; JUDGEMENT] {
+    if refusal != 0
+        && verdicts.iter().all(|byte| *byte == 255)
+        && judgement == [255u64; JUDGEMENT]
+    {
         return Some(());
     }
     put_judgement(answer, &judgement, &verdicts)

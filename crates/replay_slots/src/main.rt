@@ -8,7 +8,7 @@
 // | enc | FIELDS, BUFFER, payload | refusal (1), where not refused header checksum (4) and SLOT |
 // | val | PLACE, SLOT | status (1), the nine numbers found (8 each) |
 // | fac | PLACE, SLOT | facts (1), the four numbers found (8 each) |
-// | frm | PLACE, SLOT | status (1), the part (26) |
+// | frm | PLACE, SLOT | status (1), the part (34) |
 // | dec | SIDE of A, SIDE of B | refusal (1), where not refused the report (5) |
 //
 // - FIELDS: volume0 (8), volume1 (8), object_id (8), generation (8), owner_generation (8), slot_offset (8), index (4), log2_slot_size (1),

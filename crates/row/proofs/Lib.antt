@@ -1,1 +1,2 @@
 pub mod RecordLaws
+pub mod SameLaws

@@ -1,11 +1,13 @@
 -- What the judge over a row (docs/FORMAT.md, "The store verdict") answers for the pairs that frames stand for, and what it leaves of lent
 -- pairs and verdicts, of which it may use the first.
-use Rattle.std.specs.Prelude.{Bool, not, ◌||◌, List, ◌++◌, ℕ, ◌*◌, ◌%◌, ◌==◌, nat_lt, if◌then◌else◌, length, map, take, drop, Result, Err}
+use Rattle.std.specs.Prelude.{◌≡◌, Bool, true, not, ◌||◌, List, ◌++◌, ℕ, ◌*◌, ◌%◌, ◌==◌, nat_lt, if◌then◌else◌, length, map, take, drop, Result, Err}
+use Rattle.std.specs.List.{list_all}
 use Rattle.judge.specs.declared.verdict.PairVerdict.{PairVerdict}
 use Rattle.judge.specs.declared.verdict.Judgement.{Judgement}
 use Rattle.judge.specs.declared.verdict.JudgeError.{JudgeError}
 use Rattle.judge.specs.declared.records.PairRead.{PairRead}
-use Rattle.judge.specs.Frames.{frame_width, verdict_width, pair_count, frames, row_bytes}
+use Rattle.judge.specs.Frames.{frame_width, verdict_width, pair_count, pair_in_range, frames, row_bytes, judge_frames}
+use Rattle.judge.specs.Same.{mark}
 use Rattle.judge.specs.Records.{judge_records, records_left as judged_left}
 use Rattle.row.specs.Records.{pair_of}
 
@@ -32,6 +34,12 @@ unfoldable pub verdicts_left : List ℕ → Bool → ℕ → ℕ → List PairVe
 verdicts_left s clean room pairs verdicts =
     if is_no_row s room pairs (length verdicts) then verdicts
     else judged_left (records s) clean (take room verdicts) ++ drop room verdicts
+
+-- So both judges answer the same over whole frames whose values are in range, where so many verdicts are lent.
+abbrev pub SameAnswer : Type 0
+SameAnswer =
+    (s : List ℕ) (clean : Bool) (room : ℕ) → length s % frame_width ≡ 0 → list_all pair_in_range (frames s) ≡ true
+    → judge_records (records s) clean room ≡ judge_frames s (mark clean) (room * verdict_width)
 
 -- The verdicts' bytes, over as many.
 unfoldable pub bytes_left : List PairVerdict → List ℕ → List ℕ

@@ -1,11 +1,13 @@
 -- What record a frame (docs/FORMAT.md, "Frames") stands for: the statuses by their numbers, the info of a Valid slot and the
 -- header's facts from the part's fields.
-use Rattle.std.specs.Prelude.{ℕ, List, ◌==◌, if◌then◌else◌, unwrap_or, Option, Some, None}
+use Rattle.std.specs.Prelude.{◌≡◌, true, ℕ, List, ◌==◌, if◌then◌else◌, unwrap_or, Option, Some, None}
 use Rattle.slot.specs.declared.slot.HeaderFacts.{HeaderFacts}
 use Rattle.slot.specs.declared.slot.SlotStatus.{SlotStatus}
 use Rattle.judge.specs.declared.part.SlotPart.{SlotPart}
 use Rattle.judge.specs.declared.records.SlotRead.{SlotRead}
 use Rattle.judge.specs.declared.records.PairRead.{PairRead}
+use Rattle.judge.specs.Frames.{pair_from, pair_in_range}
+use Rattle.judge.specs.Records.{pair_read}
 use Rattle.judge.specs.Part.{part_width, numbered_of, part_at, part_status}
 
 -- A number that is no status stands for a slot that was not read.
@@ -24,3 +26,7 @@ slot_of p = record { status = status_from p; facts = facts_from p }
 
 abbrev pub pair_of : List ℕ → PairRead
 pair_of s = record { a = slot_of (part_at s 0); b = slot_of (part_at s part_width) }
+
+-- Of a frame whose values are in range the judge is told the same by its record.
+abbrev pub SameShown : Type 0
+SameShown = (s : List ℕ) → pair_in_range s ≡ true → pair_read (pair_of s) ≡ pair_from s

@@ -3,8 +3,8 @@
 #![tactic(auto)]
 
 ghost use Rattle.std.specs.Prelude.{◌≡◌, length};
-ghost use Rattle.row.specs.Records.{status_from, facts_from, slot_of, pair_of};
-ghost use Rattle.row.specs.Judged.{judge_row, verdicts_left, records_left, bytes_left};
+ghost use Rattle.row.specs.Records.{status_from, facts_from, slot_of, pair_of, SameShown};
+ghost use Rattle.row.specs.Judged.{SameAnswer, judge_row, verdicts_left, records_left, bytes_left};
 
 use judge::frames::{FRAME, VERDICT, parts};
 use judge::part::SlotPart;
@@ -86,6 +86,14 @@ pub fn judge_row(
     }
     judge::records::judge(&pairs[..whole.len()], clean, &mut verdicts[..room])
 }
+
+// Does nothing: its contract is that a frame whose values are in range and the record that it stands for tell the judge the same, the owner
+// generation included, so that both judges answer the same over them.
+#[tactic(auto, using(crate::proofs::SameLaws::same_shown, crate::proofs::SameLaws::same_answer))]
+pub fn same_law()
+    ensures shown { SameShown }
+    ensures answer { SameAnswer }
+{}
 
 // ---- the verdicts in bytes
 

@@ -54,7 +54,8 @@ refusal number (Ok value) = 0
 refusal number (Err error) = number error
 
 abbrev pub version : ℕ → ℕ → Version
-version generation number = record { generation = generation; meta_seq = number; header_crc32c = 7; prev_header_crc32c = 0 }
+version generation number =
+    record { generation = generation; meta_seq = number; header_crc32c = 7; prev_header_crc32c = 0; owner_generation = 0 }
 
 -- What the judge is told of slots, by the codes of their statuses.
 abbrev pub valid : ℕ → ℕ → Shown
@@ -63,13 +64,21 @@ valid generation number = part_shown (record { code = 12; facts = 0; version = v
 abbrev pub blank_slot : Shown
 blank_slot =
     part_shown
-    (record { code = 2; facts = 0; version = record { generation = 0; meta_seq = 0; header_crc32c = 0; prev_header_crc32c = 0 } })
+    (record {
+      code = 2;
+      facts = 0;
+      version = record { generation = 0; meta_seq = 0; header_crc32c = 0; prev_header_crc32c = 0; owner_generation = 0 };
+    })
 
 -- A write after a valid slot of generation 1, its payload torn.
 abbrev pub torn : ℕ → Shown
 torn number =
     part_shown
-    (record { code = 11; facts = 2; version = record { generation = 2; meta_seq = number; header_crc32c = 8; prev_header_crc32c = 7 } })
+    (record {
+      code = 11;
+      facts = 2;
+      version = record { generation = 2; meta_seq = number; header_crc32c = 8; prev_header_crc32c = 7; owner_generation = 0 };
+    })
 
 abbrev pub pair : Shown → Shown → Pair
 pair a b = record { a = a; b = b }

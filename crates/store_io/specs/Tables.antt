@@ -100,12 +100,13 @@ PairPlaces =
     × (decide_answer (9 ∷ []) (Some SlotStatus.Blank) None ≡ (10, 9 ∷ []))
     × (winner_answer 512 512 decided ≡ (2, 0 ∷ 0 ∷ 0 ∷ 0 ∷ 0 ∷ 0 ∷ 0 ∷ 0 ∷ 0 ∷ [], 1 ∷ 2 ∷ 3 ∷ 4 ∷ 5 ∷ 6 ∷ 7 ∷ 8 ∷ 9 ∷ [], 2 ∷ 12 ∷ 1 ∷ 2 ∷ 1 ∷ 0 ∷ 1 ∷ [], 8, 9))
 
--- The slot to heal, its pair, writable, clean, refused.
+-- The slot to heal, its pair, writable, clean, refused, whether owners differ.
 abbrev pub JudgementPlaces : Type 0
 JudgementPlaces =
-    (judgement_values (record { heal = Some (3, SlotIndex.B); writable = true; clean = false; refused = false }) ≡ 2 ∷ 3 ∷ 1 ∷ 0 ∷ 0 ∷ [])
-    × (judgement_values (record { heal = None; writable = false; clean = true; refused = false }) ≡ 0 ∷ 0 ∷ 0 ∷ 1 ∷ 0 ∷ [])
-    × (judgement_values (record { heal = None; writable = false; clean = false; refused = true }) ≡ 0 ∷ 0 ∷ 0 ∷ 0 ∷ 1 ∷ [])
+    (judgement_values (record { heal = Some (3, SlotIndex.B); writable = true; clean = false; refused = false; owners_differ = false }) ≡ 2 ∷ 3 ∷ 1 ∷ 0 ∷ 0 ∷ 0 ∷ [])
+    × (judgement_values (record { heal = None; writable = false; clean = true; refused = false; owners_differ = false }) ≡ 0 ∷ 0 ∷ 0 ∷ 1 ∷ 0 ∷ 0 ∷ [])
+    × (judgement_values (record { heal = None; writable = false; clean = false; refused = true; owners_differ = false }) ≡ 0 ∷ 0 ∷ 0 ∷ 0 ∷ 1 ∷ 0 ∷ [])
+    × (judgement_values (record { heal = None; writable = false; clean = false; refused = false; owners_differ = true }) ≡ 0 ∷ 0 ∷ 0 ∷ 0 ∷ 0 ∷ 1 ∷ [])
 
 -- ---- metadata
 

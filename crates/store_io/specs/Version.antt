@@ -2,4 +2,4 @@
 use Rattle.std.specs.Prelude.{ℕ}
 
 abbrev pub version : ℕ
-version = 1
+version = 2

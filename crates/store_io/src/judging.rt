@@ -9,7 +9,7 @@ use judge::frames::judge;
 use judge::verdict::Judgement;
 
 /// The numbers of a judgement.
-pub const JUDGEMENT: usize = 5;
+pub const JUDGEMENT: usize = 6;
 
 // Judges a whole store from its frames.
 #[unsafe(no_mangle)]
@@ -31,7 +31,7 @@ pub extern "C" fn sio_judge(
     }
 }
 
-// The slot to heal and its pair, zeros without one; writable, clean, refused.
+// The slot to heal and its pair, zeros without one; writable, clean, refused, whether owners differ.
 // The C interface has a row of numbers for a record.
 pub fn judgement_values(j: &Judgement) -> [u64; JUDGEMENT]
     ensures { result ≡ judgement_values j.now }
@@ -46,5 +46,6 @@ pub fn judgement_values(j: &Judgement) -> [u64; JUDGEMENT]
         u64::from(j.writable),
         u64::from(j.clean),
         u64::from(j.refused),
+        u64::from(j.owners_differ),
     ]
 }

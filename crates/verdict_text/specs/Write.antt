@@ -19,7 +19,7 @@ abbrev pub verdict_line : ℕ
 verdict_line = 2 * verdict_width + 1
 
 abbrev pub judgement_width : ℕ
-judgement_width = 8
+judgement_width = 9
 
 abbrev pub last_line : ℕ
 last_line = 2 * judgement_width + 1
@@ -28,10 +28,12 @@ last_line = 2 * judgement_width + 1
 abbrev pub refusal_line : ℕ → List ℕ
 refusal_line number = 0x52 ∷ (0x30 + number / 10) ∷ (0x30 + number % 10) ∷ newline ∷ []
 
--- Heal slot, heal pair in four bytes, writable, clean, refused.
+-- Heal slot, heal pair in four bytes, writable, clean, refused, whether owners differ.
 abbrev pub judgement_bytes : Judgement → List ℕ
 judgement_bytes j =
-    heal_slot j.heal ∷ (take 4 (to_le_bytes w64 (heal_pair j.heal)) ++ from_bool j.writable ∷ from_bool j.clean ∷ from_bool j.refused ∷ [])
+    heal_slot j.heal
+    ∷ (take 4 (to_le_bytes w64 (heal_pair j.heal))
+    ++ from_bool j.writable ∷ from_bool j.clean ∷ from_bool j.refused ∷ from_bool j.owners_differ ∷ [])
 
 -- A line a verdict, then the last one.
 abbrev pub judgement_text : List ℕ → Judgement → List ℕ

@@ -11,7 +11,7 @@ use judge::verdict::Judgement;
 /// The widths of a verdict's line, of a judgement and of its line, the last one.
 pub(crate) const VERDICT_LINE: usize = 2 * VERDICT + 1;
 
-const JUDGEMENT: usize = 8;
+const JUDGEMENT: usize = 9;
 
 pub(crate) const LAST_LINE: usize = 2 * JUDGEMENT + 1;
 
@@ -29,7 +29,7 @@ fn write_line(output: &mut [u8], at: usize, bytes: &[u8]) -> usize
     end + 1
 }
 
-// Heal slot, heal pair, writable, clean, refused: the row is the layout of the line.
+// Heal slot, heal pair, writable, clean, refused, whether owners differ: the row is the layout of the line.
 fn judgement_bytes(j: Judgement) -> [u8; JUDGEMENT]
     ensures { result ≡ judgement_bytes j }
 {
@@ -43,6 +43,7 @@ fn judgement_bytes(j: Judgement) -> [u8; JUDGEMENT]
         u8::from(j.writable),
         u8::from(j.clean),
         u8::from(j.refused),
+        u8::from(j.owners_differ),
     ]
 }
 

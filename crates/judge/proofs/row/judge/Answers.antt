@@ -15,7 +15,7 @@ returns-clause-value g c =
     rw seen.0
     (ap Ok
     (row-judged g.V.Verdicts.cell g.V.Verdicts.read g.met.V.Verdicts.reads_back (map g.P.ReadPair.shown c.args.pairs.now) (c.args.clean == 1) seen.1 t.tally
-    t.cells c.verdict-volume.ensures c.rules-rules.ensures s.cells s.heal c.verdict-last.ensures c.writable.ensures))
+    t.cells c.verdict-volume.ensures c.rules-rules.ensures s.cells s.heal c.verdict-last.ensures c.writable.ensures c.owners_differ.ensures))
 
 pub returns-clause-cells : goal.returns-clause-cells
 returns-clause-cells g c =
