@@ -77,7 +77,8 @@ long_record end footprint =
 
 -- ---- slots
 
--- What a host left in the fields of a frame that are not given: the largest numbers.
+-- What a host left in the fields of a frame that are not given: the largest numbers. NothingGiven, ChecksumGiven and NumbersGiven of the
+-- judge's crate say which these are; the owner generation is one of them beside a torn payload as well.
 abbrev pub rest : Version
 rest =
     record {
