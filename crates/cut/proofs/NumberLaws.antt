@@ -4,8 +4,7 @@ use Rattle.std.proofs.Common.{◌≡◌, refl, ap, ◌∙◌, true, List, [], �
 use Rattle.std.proofs.Math.Seq.{take-append-add, drop-append-add}
 use Rattle.slot.specs.Status.{other}
 use Rattle.slot.specs.declared.slot.SlotIndex.{SlotIndex}
-use Rattle.judge.specs.Numbers.{slots, highest, highest_other, qualifies}
-use Rattle.judge.specs.Verdict.{by_index}
+use Rattle.judge.specs.Numbers.{slots, place, highest, highest_other, qualifies}
 use Rattle.judge.specs.declared.pairs.Shown.{Shown}
 use Rattle.cut.specs.Store.{Pair, shown}
 use Rattle.cut.proofs.PairLaws.{shown_slot, number_at}
@@ -35,10 +34,6 @@ others_behind xs ys n k is =
     let front_joined = highest_append xs (take n ys) in
     omega arith
 
--- The place of a pair's slot among all slots.
-abbrev pub place_of : SlotIndex → ℕ → ℕ
-place_of index i = by_index index (2 * i) (2 * i + 1)
-
 module _ (before : List Pair) (p : Pair) (behind : List Pair) where
   abbrev pub others : ℕ → ℕ
   others n = max (highest (slots (shown before))) (max n (highest (slots (shown behind))))
@@ -56,7 +51,7 @@ module _ (before : List Pair) (p : Pair) (behind : List Pair) where
       go SlotIndex.B below = omega arith
 
   pub others_row : (index : SlotIndex)
-      → highest_other (place_of index (length before)) (slots (shown (before ++ p ∷ behind))) ≡ others (number_at (other index) p)
+      → highest_other (place (length before) index) (slots (shown (before ++ p ∷ behind))) ≡ others (number_at (other index) p)
   others_row SlotIndex.A =
       let all =
       others_behind (slots (shown before)) (shown_slot p.a ∷ shown_slot p.b ∷ slots (shown behind)) 0 (2 * length before)
@@ -79,8 +74,8 @@ in_highest (q ∷ before) p behind index = let rest = in_highest before p behind
 pub write_qualifies : (before : List Pair) (p q : Pair) (behind : List Pair) (index : SlotIndex)
     → number_at (other index) q ≡ number_at (other index) p → number_at index p ≤ number_at (other index) p
     → (m : ℕ) → m ≡ highest (slots (shown (before ++ p ∷ behind))) + 1
-    → qualifies (slots (shown (before ++ q ∷ behind))) (place_of index (length before)) (Some m) ≡ true
+    → qualifies (slots (shown (before ++ q ∷ behind))) (place (length before) index) (Some m) ≡ true
 write_qualifies before p q behind index kept below m is =
     let after = others_row before q behind index in
     let first = highest_row before p behind index below in
-    eq-eqb m (highest_other (place_of index (length before)) (slots (shown (before ++ q ∷ behind))) + 1) (omega (arith, is, after, first, kept))
+    eq-eqb m (highest_other (place (length before) index) (slots (shown (before ++ q ∷ behind))) + 1) (omega (arith, is, after, first, kept))

@@ -4,7 +4,7 @@ use Rattle.slot.specs.Payload.{payload as payload_of}
 use Rattle.slot.specs.declared.slot.SlotIndex.{SlotIndex}
 use Rattle.slot.specs.declared.slot.SlotInfo.{SlotInfo}
 use Rattle.judge.specs.Pairs.{pair_case}
-use Rattle.judge.specs.Numbers.{slots, qualifies}
+use Rattle.judge.specs.Numbers.{slots, place, qualifies}
 use Rattle.judge.specs.Verdict.{winner_beside, pair_verdict, is_in_flight}
 use Rattle.judge.specs.Judge.{verdicts_from, first_verdicts, volume_verdict, mark_counts, pair_heal, verdicts, judgement, most_pairs}
 use Rattle.judge.specs.Frames.{verdict_width, row_bytes}
@@ -16,7 +16,6 @@ use Rattle.cut.specs.Cut.{ReadBack, AllReadBack, Confirmed}
 use Rattle.cut.proofs.JudgeLaws.{Settled, Explained, explained_standing, row_confirmed, row_verdicts, row_writable, row_heal_is}
 use Rattle.cut.proofs.FrameLaws.{PairTyped, row_judged, row_written, judged_row, judged_bytes}
 use Rattle.cut.proofs.PairLaws.{shown_pair, Stands, last_is}
-use Rattle.cut.proofs.NumberLaws.{place_of}
 use Rattle.cut.proofs.StateLaws.{Leads, Resting, Rests, rests, sound_leads, sound_rests}
 
 -- ---- a pair that rests
@@ -70,7 +69,7 @@ rested_back rested = stands_back (rested_stands rested (λ index number. true))
 
 -- The rule for the slots of the ith pair.
 abbrev pub rule_at : List Shown → ℕ → SlotIndex → Option ℕ → Bool
-rule_at all i index = qualifies all (place_of index i)
+rule_at all i index = qualifies all (place i index)
 
 rested_first : (all : List Shown) (i : ℕ) {ps : List Pair} (rest : Every Rested ps) → verdicts_from all i (shown ps) ≡ rested_verdicts rest
 rested_first all i Every.none = refl

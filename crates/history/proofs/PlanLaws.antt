@@ -6,7 +6,7 @@ use Rattle.slot.specs.Status.{other}
 use Rattle.slot.specs.declared.slot.SlotIndex.{SlotIndex}
 use Rattle.slot.specs.declared.slot.SlotInfo.{SlotInfo}
 use Rattle.pair.specs.Pair.{winner_info, next_write}
-use Rattle.judge.specs.Numbers.{slots, highest, highest_other}
+use Rattle.judge.specs.Numbers.{slots, place, highest, highest_other}
 use Rattle.judge.specs.Judge.{most_pairs, judgement, unless}
 use Rattle.judge.specs.Frames.{verdict_width, pair_count, frames as frames_in, row, frames_error, judge_frames, refusal}
 use Rattle.judge.specs.Same.{frame_of}
@@ -24,7 +24,7 @@ use Rattle.plan.specs.Error.{unless_refused}
 use Rattle.plan.specs.Numbers.{after, highest_winner, next_number, heal_number}
 use Rattle.plan.specs.Pairs.{frame_report}
 use Rattle.plan.specs.Plan.{followed, plan_at, some_plan, plan_next, plan_for, plan_write}
-use Rattle.plan.specs.Heal.{place, with_pair, heal_in, heal_for, plan_heal}
+use Rattle.plan.specs.Heal.{with_pair, heal_in, heal_for, plan_heal}
 use Rattle.plan.specs.Promise.{NumberedPair, write_of, IsGiven}
 use Rattle.plan.specs.declared.write.Plan.{Plan}
 use Rattle.plan.proofs.PlanLaws.{Has, next_of_winner}

@@ -5,7 +5,7 @@ use Rattle.slot.specs.Status.{other}
 use Rattle.slot.specs.declared.slot.SlotIndex.{SlotIndex}
 use Rattle.slot.specs.declared.slot.SlotInfo.{SlotInfo}
 use Rattle.judge.specs.Pairs.{pair_case}
-use Rattle.judge.specs.Numbers.{slots, highest, highest_other}
+use Rattle.judge.specs.Numbers.{slots, place, highest, highest_other}
 use Rattle.judge.specs.Verdict.{winner_beside}
 use Rattle.judge.specs.Judge.{pair_heal}
 use Rattle.judge.specs.declared.verdict.SlotVerdict.{SlotVerdict}
@@ -13,7 +13,7 @@ use Rattle.judge.specs.declared.verdict.PairVerdict.{PairVerdict}
 use Rattle.cut.specs.Store.{Every, Pair, shown}
 use Rattle.cut.proofs.JudgeLaws.{quiet_explained, Explained, settled_none}
 use Rattle.cut.proofs.PairLaws.{other_other, shown_pair, number_at, Stands}
-use Rattle.cut.proofs.NumberLaws.{place_of, others_row}
+use Rattle.cut.proofs.NumberLaws.{others_row}
 use Rattle.cut.proofs.StateLaws.{Leads, winner_number as leads_number, resting_number}
 use Rattle.cut.proofs.RowLaws.{Rested, quiet_of, rested_stands, rule_at, heal_is}
 use Rattle.plan.specs.Numbers.{case_winner, number_by, winner_number, highest_winner}
@@ -66,7 +66,7 @@ module _ {before behind : List Pair} (rest_before : Every Rested before) (rest_b
   winners_are = let row = winners_row before p behind in omega arith
 
   -- The highest of all slots but the one beside the winner is a winner's,
-  pub others_are : highest_other (place_of (other x) (length before)) (slots (shown (before ++ p ∷ behind))) ≡ highest_winner (shown (before ++ p ∷ behind))
+  pub others_are : highest_other (place (length before) (other x)) (slots (shown (before ++ p ∷ behind))) ≡ highest_winner (shown (before ++ p ∷ behind))
   others_are =
       let others = others_row before p behind (other x) in
       let own = ap (λ (index : SlotIndex). number_at index p) (other_other x) ∙ leads_number p x i leads in
@@ -80,7 +80,7 @@ module _ {before behind : List Pair} (rest_before : Every Rested before) (rest_b
   flight_qualifies =
       let others = others_are in
       eq-eqb (highest_winner (shown (before ++ p ∷ behind)) + 1)
-      (highest_other (place_of (other x) (length before)) (slots (shown (before ++ p ∷ behind))) + 1) (omega arith)
+      (highest_other (place (length before) (other x)) (slots (shown (before ++ p ∷ behind))) + 1) (omega arith)
 
 -- ---- the slot that is named
 

@@ -6,7 +6,7 @@ use Rattle.std.specs.List.{IsAmong}
 use Rattle.slot.specs.Write.{header_crc}
 use Rattle.slot.specs.declared.slot.SlotIndex.{SlotIndex}
 use Rattle.slot.specs.declared.slot.SlotInfo.{SlotInfo}
-use Rattle.judge.specs.Numbers.{slots, highest, highest_other}
+use Rattle.judge.specs.Numbers.{slots, place, highest, highest_other}
 use Rattle.judge.specs.Judge.{most_pairs}
 use Rattle.judge.specs.Frames.{verdict_width}
 use Rattle.judge.specs.declared.verdict.PairVerdict.{PairVerdict}
@@ -15,7 +15,7 @@ use Rattle.cut.specs.Cut.{Tear, Write, store, size, old, new, left, Possible, he
 use Rattle.plan.specs.declared.write.Plan.{Plan}
 use Rattle.plan.specs.Numbers.{after, highest_winner, next_number, heal_number}
 use Rattle.plan.specs.Plan.{plan_write}
-use Rattle.plan.specs.Heal.{place, plan_heal}
+use Rattle.plan.specs.Heal.{plan_heal}
 use Rattle.plan.specs.Promise.{NumberedPair, write_of, IsGiven}
 use Rattle.history.specs.History.{Past, Tracked, past, pairs, standing, started, named, Allowed, HistoryAccident, HarmfulAccident, Put, write_to, finished, torn_by, Reached, ReadKnown, Promised}
 

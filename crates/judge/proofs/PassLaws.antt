@@ -14,7 +14,7 @@ use Rattle.judge.specs.declared.numbers.Maxima.{Maxima}
 use Rattle.judge.specs.declared.verdict.PairVerdict.{PairVerdict}
 use Rattle.judge.specs.declared.verdict.Tally.{Tally}
 use Rattle.judge.specs.Pairs.{numbered, opposite, is_unsupported, valid, winner, pair_case}
-use Rattle.judge.specs.Numbers.{slots, qualifies}
+use Rattle.judge.specs.Numbers.{slots, place, qualifies}
 use Rattle.judge.specs.Maxima.{no_maxima, note_all, qualifies_by, by_maxima}
 use Rattle.judge.specs.Verdict.{by_index, slot_verdict, pair_verdict, in_flight}
 use Rattle.judge.specs.Judge.{verdicts_from, first_verdicts, candidates, any_candidate, any_trouble, any_refused, first_tally, pair_heal, heal}
@@ -65,7 +65,7 @@ verdicts-from : (all : List Shown) (i : ℕ) (ps : List Pair)
     → verdicts_by (note_all no_maxima all) ps ≡ verdicts_from all i ps
 verdicts-from all i [] within = refl
 verdicts-from all i (p ∷ ps) within =
-    let here = verdict-same (by_maxima (note_all no_maxima all)) (λ index. qualifies all (by_index index (2 * i) (2 * i + 1))) p (λ index. refl) agree in
+    let here = verdict-same (by_maxima (note_all no_maxima all)) (λ index. qualifies all (place i index)) p (λ index. refl) agree in
     let rest = verdicts-from all (suc i) ps (λ j s at. subst (λ (k : ℕ). At k all s) (next i j) (within (suc (suc j)) s (At.there (At.there at)))) in
     rw (here, rest)
   where
@@ -76,7 +76,7 @@ verdicts-from all i (p ∷ ps) within =
     first i = omega arith
 
     agree : (index : SlotIndex) (v : ℕ) → numbered (by_index index p.a p.b) ≡ Some v
-        → qualifies_by (note_all no_maxima all) (Some v) ≡ qualifies all (by_index index (2 * i) (2 * i + 1)) (Some v)
+        → qualifies_by (note_all no_maxima all) (Some v) ≡ qualifies all (place i index) (Some v)
     agree SlotIndex.A v own = qualifies-same v (2 * i) all p.a (rw (first i) at (within 0 p.a At.here)) own
     agree SlotIndex.B v own = qualifies-same v (2 * i + 1) all p.b (within 1 p.b (At.there At.here)) own
 

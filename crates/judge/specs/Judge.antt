@@ -1,12 +1,12 @@
 -- The verdict on the whole store (docs/FORMAT.md, "The store verdict"; judge.rs): two passes over the row of its pairs. Pair 0 is the
 -- volume record, the others are table pages.
-use Rattle.std.specs.Prelude.{◌≡◌, Bool, false, not, ◌&&◌, ◌||◌, List, [], ◌∷◌, ℕ, zero, suc, ◌+◌, ◌*◌, ◌==◌, if◌then◌else◌, Option, Some, None, Result, Ok, Err}
+use Rattle.std.specs.Prelude.{◌≡◌, Bool, false, not, ◌&&◌, ◌||◌, List, [], ◌∷◌, ℕ, zero, suc, ◌+◌, ◌==◌, if◌then◌else◌, Option, Some, None, Result, Ok, Err}
 use Rattle.std.specs.Option.{option_or}
 use Rattle.slot.specs.declared.slot.SlotIndex.{SlotIndex}
 use Rattle.judge.specs.declared.pairs.Shown.{Shown}
 use Rattle.judge.specs.declared.pairs.Pair.{Pair}
 use Rattle.judge.specs.Pairs.{pair_case, has_candidate}
-use Rattle.judge.specs.Numbers.{slots, qualifies}
+use Rattle.judge.specs.Numbers.{slots, place, qualifies}
 use Rattle.judge.specs.declared.verdict.SlotVerdict.{SlotVerdict}
 use Rattle.judge.specs.declared.verdict.Standing.{Standing}
 use Rattle.judge.specs.declared.verdict.PairVerdict.{PairVerdict}
@@ -23,7 +23,7 @@ use Rattle.judge.specs.Verdict.{by_index, no_winner, pair_verdict, is_in_flight,
 abbrev pub verdicts_from : List Shown → ℕ → List Pair → List PairVerdict
 verdicts_from all i [] = []
 verdicts_from all i (p ∷ ps) =
-    pair_verdict (λ index. qualifies all (by_index index (2 * i) (2 * i + 1))) (pair_case p) ∷ verdicts_from all (suc i) ps
+    pair_verdict (λ index. qualifies all (place i index)) (pair_case p) ∷ verdicts_from all (suc i) ps
 
 unfoldable pub first_verdicts : List Pair → List PairVerdict
 first_verdicts ps = verdicts_from (slots ps) 0 ps

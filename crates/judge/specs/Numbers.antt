@@ -1,13 +1,19 @@
 -- Which candidates qualify (docs/FORMAT.md, "The store verdict"): by the numbers of all slots of the store.
-use Rattle.std.specs.Prelude.{Bool, true, List, [], ◌∷◌, ◌++◌, ℕ, suc, ◌+◌, ◌==◌, max, take, drop, Option, Some, None}
+use Rattle.std.specs.Prelude.{Bool, true, List, [], ◌∷◌, ◌++◌, ℕ, suc, ◌+◌, ◌*◌, ◌==◌, max, take, drop, Option, Some, None}
+use Rattle.slot.specs.declared.slot.SlotIndex.{SlotIndex}
 use Rattle.judge.specs.declared.pairs.Shown.{Shown}
 use Rattle.judge.specs.declared.pairs.Pair.{Pair}
 use Rattle.judge.specs.Pairs.{numbered}
+use Rattle.judge.specs.Verdict.{by_index}
 
 -- The slots of a row of pairs, A before B.
 abbrev pub slots : List Pair → List Shown
 slots [] = []
 slots (p ∷ ps) = p.a ∷ p.b ∷ slots ps
+
+-- The place of a slot of the ith pair.
+abbrev pub place : ℕ → SlotIndex → ℕ
+place i index = by_index index (2 * i) (2 * i + 1)
 
 -- 0 for a slot that is not numbered.
 abbrev pub number : Option ℕ → ℕ

@@ -2,7 +2,7 @@
 use Rattle.std.proofs.Common.{◌≡◌, refl, sym, ap, ap₂, subst, ◌∙◌, List, ℕ, ◌*◌, ◌==◌, slice_get, Option, Some, None, Result, Ok, Err}
 use Rattle.std.proofs.lemmas.Option.{some_pair_parts, same_Some}
 use Rattle.slot.specs.declared.slot.SlotIndex.{SlotIndex}
-use Rattle.judge.specs.Numbers.{slots, highest_other}
+use Rattle.judge.specs.Numbers.{slots, place, highest_other}
 use Rattle.judge.specs.Judge.{judgement, unless}
 use Rattle.judge.specs.Frames.{verdict_width, pair_count, frames, row, frames_error, judge_frames, refusal}
 use Rattle.judge.specs.declared.verdict.JudgeError.{JudgeError}
@@ -11,7 +11,7 @@ use Rattle.plan.specs.declared.error.PlanError.{PlanError}
 use Rattle.plan.specs.declared.write.Plan.{Plan}
 use Rattle.plan.specs.Pairs.{frame_report}
 use Rattle.plan.specs.Plan.{followed, plan_at, some_plan}
-use Rattle.plan.specs.Heal.{place, with_pair, heal_in, heal_for, plan_heal, HealsTheNamed}
+use Rattle.plan.specs.Heal.{with_pair, heal_in, heal_for, plan_heal, HealsTheNamed}
 use Rattle.plan.proofs.PlanLaws.{given, Has, plan_has}
 
 -- What the judge answers where it answers.

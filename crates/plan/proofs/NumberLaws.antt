@@ -4,7 +4,7 @@ use Rattle.slot.specs.declared.slot.SlotIndex.{SlotIndex}
 use Rattle.judge.specs.declared.pairs.Shown.{Shown}
 use Rattle.judge.specs.declared.numbers.Maxima.{Maxima}
 use Rattle.judge.specs.Pairs.{numbered}
-use Rattle.judge.specs.Numbers.{slots, number, highest, highest_other}
+use Rattle.judge.specs.Numbers.{slots, place, number, highest, highest_other}
 use Rattle.judge.specs.Maxima.{no_maxima, noted, note_all, others_max}
 use Rattle.judge.specs.Verdict.{by_index}
 use Rattle.judge.specs.Frames.{pair_from, frames, row, refusal, frames_maxima, frames_heal}
@@ -16,7 +16,7 @@ use Rattle.plan.specs.declared.write.Plan.{Plan}
 use Rattle.plan.specs.Error.{unless_refused}
 use Rattle.plan.specs.Pairs.{frame_report}
 use Rattle.plan.specs.Plan.{followed, plan_at}
-use Rattle.plan.specs.Heal.{place, with_pair, heal_for, plan_heal}
+use Rattle.plan.specs.Heal.{with_pair, heal_for, plan_heal}
 
 first_of : (m : Maxima) (ss : List Shown) → (note_all m ss).first ≡ max m.first (highest ss)
 first_of m [] = omega arith

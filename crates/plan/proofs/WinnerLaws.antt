@@ -1,13 +1,13 @@
 -- The winners of the verdicts are those that the pairs' own slots show: neither pass changes a winner.
-use Rattle.std.proofs.Common.{◌≡◌, refl, ap₂, ◌∙◌, Bool, true, false, List, [], ◌∷◌, ℕ, suc, ◌+◌, ◌*◌, map, arith, Option}
+use Rattle.std.proofs.Common.{◌≡◌, refl, ap₂, ◌∙◌, Bool, true, false, List, [], ◌∷◌, ℕ, suc, map, arith, Option}
 use Rattle.slot.specs.declared.slot.SlotIndex.{SlotIndex}
 use Rattle.judge.specs.declared.pairs.Shown.{Shown}
 use Rattle.judge.specs.declared.pairs.Pair.{Pair}
 use Rattle.judge.specs.declared.pairs.PairCase.{PairCase}
 use Rattle.judge.specs.declared.verdict.PairVerdict.{PairVerdict}
 use Rattle.judge.specs.Pairs.{pair_case}
-use Rattle.judge.specs.Numbers.{slots, qualifies}
-use Rattle.judge.specs.Verdict.{by_index, pair_verdict}
+use Rattle.judge.specs.Numbers.{slots, place, qualifies}
+use Rattle.judge.specs.Verdict.{pair_verdict}
 use Rattle.judge.specs.Judge.{verdicts_from, first_verdicts, demoted, last_verdicts, row_rules, verdicts}
 use Rattle.plan.specs.Numbers.{case_winner, WinnersOfVerdicts}
 
@@ -22,7 +22,7 @@ first_winner q (PairCase.Won index o) = refl
 first_winners : (all : List Shown) (i : ℕ) (ps : List Pair) → winners (verdicts_from all i ps) ≡ map (λ p. case_winner (pair_case p)) ps
 first_winners all i [] = refl
 first_winners all i (p ∷ ps) =
-    ap₂ (λ (w : Option SlotIndex) (ws : List (Option SlotIndex)). w ∷ ws) (first_winner (λ index. qualifies all (by_index index (2 * i) (2 * i + 1))) (pair_case p)) (first_winners all (suc i) ps)
+    ap₂ (λ (w : Option SlotIndex) (ws : List (Option SlotIndex)). w ∷ ws) (first_winner (λ index. qualifies all (place i index)) (pair_case p)) (first_winners all (suc i) ps)
 
 kept : (demote : Bool) (v : PairVerdict) → (demoted demote v).winner ≡ v.winner
 kept false v = refl

@@ -1,8 +1,7 @@
 -- The plan of the write that heals (docs/FORMAT.md, "What a correct write is").
-use Rattle.std.specs.Prelude.{◌≡◌, List, ℕ, ◌+◌, ◌*◌, ◌==◌, Option, Some, None, Result, Ok, Err, slice_get}
+use Rattle.std.specs.Prelude.{◌≡◌, List, ℕ, ◌*◌, ◌==◌, Option, Some, None, Result, Ok, Err, slice_get}
 use Rattle.slot.specs.declared.slot.SlotIndex.{SlotIndex}
-use Rattle.judge.specs.Numbers.{slots, highest_other}
-use Rattle.judge.specs.Verdict.{by_index}
+use Rattle.judge.specs.Numbers.{slots, place, highest_other}
 use Rattle.judge.specs.Judge.{judgement}
 use Rattle.judge.specs.Frames.{verdict_width, pair_count, frames, row, judge_frames, refusal}
 use Rattle.judge.specs.declared.verdict.Judgement.{Judgement}
@@ -11,10 +10,6 @@ use Rattle.plan.specs.declared.write.Plan.{Plan}
 use Rattle.plan.specs.Error.{unless_refused}
 use Rattle.plan.specs.Pairs.{frame_report}
 use Rattle.plan.specs.Plan.{followed, plan_at}
-
--- The place of a pair's slot among all slots of the store.
-abbrev pub place : ℕ → SlotIndex → ℕ
-place i index = by_index index (2 * i) (2 * i + 1)
 
 abbrev pub with_pair : ℕ → Result Plan PlanError → Result (Option (ℕ × Plan)) PlanError
 with_pair pair (Ok plan) = Ok (Some (pair, plan))
