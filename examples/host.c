@@ -25,6 +25,10 @@
  * B is 4096, so that the volume record is found before anything is known; T and P stand in it. All slots are of format 2 and
  * numbered. The volume id is the 16 letters "store-io example", the volume record is object 0, page p is object 2^61 + p.
  *
+ * The operators. An image has no place for them, so they are a rule of the example: the volume record is operator 0's, as in
+ * every store, and page p is operator p % 2's. So both occur in a store of two pages: operator 0 has the volume record and page
+ * 0, which are numbered together, and operator 1 has page 1, which is numbered by itself.
+ *
  * The host asks for no memory of its own. Its buffers are static: two slots of 64 KiB as read, a slot and a record to be
  * written, and a frame and a verdict for each of the pairs that the judge takes at most. A store of more pages is turned away. */
 #include <errno.h>
@@ -78,7 +82,7 @@ struct current {
 static uint8_t slots[2][MAX_SLOT];
 static uint8_t fresh[MAX_SLOT];
 static uint8_t payload[MAX_SLOT];
-static uint8_t frames[SIO_MOST_PAIRS][2][SIO_PART_LEN];
+static uint8_t frames[SIO_MOST_PAIRS][SIO_FRAME_LEN];
 static uint8_t verdicts[SIO_MOST_PAIRS][SIO_VERDICT_LEN];
 
 static const char *const status_names[] = {
@@ -129,6 +133,11 @@ static struct place place_of(const struct store *store, size_t pair) {
     uint64_t slot = UINT64_C(1) << log2;
     uint64_t a = store->record[SIO_VOLUME_TABLE_OFFSET] + (pair - 1) * 2 * slot;
     return (struct place){PAGE_OBJECT + (pair - 1), {a, a + slot}, log2};
+}
+
+/* The operator of a pair: the rule of the example. */
+static uint8_t operator_of(size_t pair) {
+    return pair == 0 ? 0 : (uint8_t)((pair - 1) % 2);
 }
 
 static size_t size_of(struct place place) {
@@ -196,14 +205,29 @@ static int read_volume(struct store *store) {
     return refusal == 0 ? check_record(store) : refused("volume record", refusal);
 }
 
+/* A slot's part of its pair's frame. */
+static uint8_t *part_of(size_t pair, uint32_t index) {
+    return frames[pair] + index * SIO_PART_LEN;
+}
+
 /* Fills a slot's part of its frame. The part of a slot that could not be read, ReadError, is zeros. */
-static void frame_slot(struct place place, uint32_t index, size_t len, uint8_t (*part)[SIO_PART_LEN]) {
+static void frame_slot(const struct store *store, size_t pair, uint32_t index) {
+    struct place place = place_of(store, pair);
+    size_t len = read_slot(store->file, place, index);
+    uint8_t *part = part_of(pair, index);
     if (len == 0) {
-        memset(part, 0, sizeof *part);
+        memset(part, 0, SIO_PART_LEN);
     } else {
         sio_frame_slot(slots[index], len, VOLUME0, VOLUME1, place.object, place.offset[index], index, place.log2,
-                       SIO_FORMAT_2, NUMBERED, part);
+                       SIO_FORMAT_2, NUMBERED, (uint8_t(*)[SIO_PART_LEN])part);
     }
+}
+
+/* Fills a pair's frame. The operator is the host's to write. */
+static void fill_frame(const struct store *store, size_t pair) {
+    frame_slot(store, pair, A);
+    frame_slot(store, pair, B);
+    frames[pair][SIO_FRAME_OPERATOR] = operator_of(pair);
 }
 
 static uint8_t clean_mark(const struct store *store) {
@@ -212,11 +236,9 @@ static uint8_t clean_mark(const struct store *store) {
 
 static int judge_store(struct store *store) {
     for (size_t pair = 0; pair < store->pairs; pair++) {
-        struct place place = place_of(store, pair);
-        frame_slot(place, A, read_slot(store->file, place, A), &frames[pair][A]);
-        frame_slot(place, B, read_slot(store->file, place, B), &frames[pair][B]);
+        fill_frame(store, pair);
     }
-    uint32_t refusal = sio_judge(frames[0][0], store->pairs * sizeof frames[0], clean_mark(store), verdicts[0],
+    uint32_t refusal = sio_judge(frames[0], store->pairs * sizeof frames[0], clean_mark(store), verdicts[0],
                                  store->pairs * sizeof verdicts[0], &store->judgement);
     return refusal == 0 ? DONE : refused("judge", refusal);
 }
@@ -314,8 +336,8 @@ static int print_chain(const struct current *current) {
 static int print_pair(const struct store *store, size_t pair) {
     const uint8_t *verdict = verdicts[pair];
     struct current current;
-    printf("pair %zu: A %s %s, B %s %s: %s, winner %s\n", pair, status_names[frames[pair][A][SIO_PART_STATUS]],
-           verdict_names[verdict[SIO_VERDICT_A]], status_names[frames[pair][B][SIO_PART_STATUS]],
+    printf("pair %zu: A %s %s, B %s %s: %s, winner %s\n", pair, status_names[part_of(pair, A)[SIO_PART_STATUS]],
+           verdict_names[verdict[SIO_VERDICT_A]], status_names[part_of(pair, B)[SIO_PART_STATUS]],
            verdict_names[verdict[SIO_VERDICT_B]], standing_names[verdict[SIO_VERDICT_STANDING]],
            slot_names[verdict[SIO_VERDICT_WINNER]]);
     int status = read_judged(store, pair, &current);
@@ -350,7 +372,7 @@ static int print_store(struct store *store, char **words) {
 
 /* Asks for the plan of a pair's next write. */
 static int plan_next(const struct store *store, size_t pair, uint64_t (*plan)[SIO_PLAN_VALUES]) {
-    uint32_t refusal = sio_plan_write(frames[0][0], store->pairs * sizeof frames[0], pair, plan);
+    uint32_t refusal = sio_plan_write(frames[0], store->pairs * sizeof frames[0], pair, plan);
     if (refusal != 0) {
         return refused("plan", refusal);
     }
@@ -435,7 +457,7 @@ static int heal_store(struct store *store, char **words) {
     uint64_t heal[SIO_HEAL_VALUES];
     struct current current;
     size_t k = 0;
-    uint32_t refusal = sio_plan_heal(frames[0][0], store->pairs * sizeof frames[0], clean_mark(store), &heal);
+    uint32_t refusal = sio_plan_heal(frames[0], store->pairs * sizeof frames[0], clean_mark(store), &heal);
     if (refusal != 0) {
         return refused("plan", refusal);
     }
@@ -546,7 +568,8 @@ static int cut_store(struct store *store, char **words) {
 
 /* ---- Making a store ---- */
 
-/* The regions of the made store, in blocks after the table: both headers first, then the data. */
+/* The regions of the made store, in blocks after the table: both headers first, then the data. A footprint is the number of the
+ * write of page 0 below that first has the region. */
 static const struct region {
     const char *name;
     uint8_t kind;
@@ -554,11 +577,12 @@ static const struct region {
     uint64_t start, data, end;
     uint64_t data_size;
     uint64_t footprint;
-} regions[] = {{"journal", SIO_KIND_APPEND, 1, 0, 2, 4, 512, 4}, {"settings", SIO_KIND_SLOT, 0, 4, 6, 6, 0, 5}};
+} regions[] = {{"journal", SIO_KIND_APPEND, 1, 0, 2, 4, 512, 3}, {"settings", SIO_KIND_SLOT, 0, 4, 6, 6, 0, 4}};
 
 #define REGION_BLOCKS 6
 
-/* The writes of the made store, in this order and numbered from 1: the pair, its generation, and the entries of a page. */
+/* The writes of the made store, in this order, those of each operator numbered from 1: the pair, its generation, and the
+ * entries of a page. */
 static const struct write {
     size_t pair;
     uint64_t generation;
@@ -616,6 +640,7 @@ static int make_slot(struct store *store, const struct write *write, uint64_t nu
 /* Makes the file: zeros to its end, then the writes. */
 static int make_image(struct store *store) {
     uint32_t crcs[3] = {0, 0, 0};
+    uint64_t numbers[SIO_MOST_OPERATOR + 1] = {0};
     uint32_t refusal = sio_table_end(LOG2_BLOCK, (uint8_t)store->record[SIO_VOLUME_LOG2_TABLE_SLOT_SIZE],
                                      (uint32_t)store->record[SIO_VOLUME_TABLE_PAGES], &store->table_end);
     if (refusal != 0) {
@@ -624,7 +649,8 @@ static int make_image(struct store *store) {
     uint8_t zero = 0;
     int status = write_at(store->file, store->table_end + REGION_BLOCKS * BLOCK - 1, &zero, 1);
     for (size_t i = 0; i < sizeof writes / sizeof writes[0] && status == DONE; i++) {
-        status = make_slot(store, &writes[i], i + 1, &crcs[writes[i].pair]);
+        size_t pair = writes[i].pair;
+        status = make_slot(store, &writes[i], ++numbers[operator_of(pair)], &crcs[pair]);
     }
     return status;
 }

@@ -33,7 +33,7 @@ static uint8_t log2_slot, log2_table;
 static size_t size, position, start, count, page_len, pairs;
 static uint16_t entries_count;
 static uint8_t a[MAX_SLOT], b[MAX_SLOT], out[MAX_SLOT], body[MAX_SLOT], page[MAX_SLOT], entries[MAX_SLOT];
-static uint8_t frames[SIO_MOST_PAIRS][2][PART], verdicts[SIO_MOST_PAIRS][SIO_VERDICT_LEN];
+static uint8_t frames[SIO_MOST_PAIRS][SIO_FRAME_LEN], verdicts[SIO_MOST_PAIRS][SIO_VERDICT_LEN];
 static uint8_t record[64];
 static uint8_t value8, kind, name[24], stored[24], id[16], part[PART], report5[5], report7[7], raw[ENTRY];
 static const uint8_t letters[25] = "abcdefghijklmnopqrstuvwx";
@@ -77,12 +77,12 @@ CALL(sio_header_facts, a, size, SLOT_A, &found4)
 CALL(sio_frame_slot, a, size, SLOT_A, &part)
 CALL(sio_decide, 12, 2, 22, 11, 12, 1, 11, 0, &report5)
 CALL(sio_winner_payload, a, size, b, size, V0, V1, 0, 0, size, log2_slot, 2, 1, &found9, &other9, &report7, &start, &count)
-CALL(sio_judge, frames[0][0], pairs * sizeof frames[0], 0, verdicts[0], pairs * sizeof verdicts[0], &judgement)
-CALL(sio_next_number, frames[0][0], pairs * sizeof frames[0], &value64)
-CALL(sio_heal_number, frames[0][0], pairs * sizeof frames[0], &value64)
-CALL(sio_plan_write, frames[0][0], pairs * sizeof frames[0], 0, &plan)
-CALL(sio_plan_heal, frames[0][0], pairs * sizeof frames[0], 0, &found5)
-CALL(sio_next_write, frames[0][0], pairs * sizeof frames[0], 0, V0, V1, 0, 0, size, log2_slot, 1, 0, body, size - 128, out, size, &plan, &crc)
+CALL(sio_judge, frames[0], pairs * sizeof frames[0], 0, verdicts[0], pairs * sizeof verdicts[0], &judgement)
+CALL(sio_next_number, frames[0], pairs * sizeof frames[0], 0, &value64)
+CALL(sio_heal_number, frames[0], pairs * sizeof frames[0], 0, &value64)
+CALL(sio_plan_write, frames[0], pairs * sizeof frames[0], 0, &plan)
+CALL(sio_plan_heal, frames[0], pairs * sizeof frames[0], 0, &found5)
+CALL(sio_next_write, frames[0], pairs * sizeof frames[0], 0, V0, V1, 0, 0, size, log2_slot, 1, 0, body, size - 128, out, size, &plan, &crc)
 CALL(sio_region_name, letters, 24, &stored, &value8)
 CALL(sio_region_name_padded, NAME, &stored, &value8)
 CALL(sio_volume_decode, record, sizeof record, &found11)
@@ -180,13 +180,15 @@ static uint32_t prepare_page(void) {
                                      entries_count * (size_t)ENTRY, &page_len);
 }
 
-/* Frames of pairs that are all as prepare_pair made them, but for a torn payload in slot B of the last one. */
+/* Frames of pairs that are all as prepare_pair made them, but for a torn payload in slot B of the last one. The operators take
+ * turns. */
 static void prepare_frames(void) {
     for (size_t i = 0; i < pairs; i++) {
-        sio_frame_slot(a, size, V0, V1, 0, 0, 0, log2_slot, 2, 1, &frames[i][0]);
-        sio_frame_slot(b, size, V0, V1, 0, size, 1, log2_slot, 2, 1, &frames[i][1]);
+        sio_frame_slot(a, size, V0, V1, 0, 0, 0, log2_slot, 2, 1, (uint8_t(*)[PART])frames[i]);
+        sio_frame_slot(b, size, V0, V1, 0, size, 1, log2_slot, 2, 1, (uint8_t(*)[PART])(frames[i] + PART));
+        frames[i][SIO_FRAME_OPERATOR] = (uint8_t)(i % (SIO_MOST_OPERATOR + 1));
     }
-    frames[pairs - 1][1][0] = 11;
+    frames[pairs - 1][PART] = 11;
 }
 
 static uint32_t prepare(uint8_t slot, uint8_t table, size_t rows_of_frames) {

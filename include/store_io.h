@@ -34,7 +34,7 @@
  *
  *    a slot                     2^log2_slot_size bytes, 512 to 65,536
  *    its payload                up to 128 bytes less than the slot
- *    frames, verdicts           68 and 4 bytes a pair, 1 to 112 pairs
+ *    frames, verdicts           69 and 4 bytes a pair, 1 to 112 pairs
  *    a volume record            64 bytes to decode, 64 or more to encode; 48 or more for its base
  *    a page                     24 bytes and 96 an entry to decode, that many or more to encode
  *    an entry                   96 bytes or more, of which the first 96 count
@@ -45,12 +45,14 @@
  *      64   sio_version sio_crc32c sio_crc32c_append sio_crc32c_gap sio_remaining sio_read_u8 sio_read_u16 sio_read_u32
  *           sio_read_u64 sio_read_bytes sio_read_array16 sio_read_array24 sio_write_u8 sio_write_u16 sio_write_u32
  *           sio_write_u64 sio_volume_decode sio_volume_base_decode sio_volume_base_encode sio_entries_per_page sio_table_end
- *           sio_check_file_len sio_decode_page sio_reserved_span sio_next_number sio_heal_number sio_plan_write
- *     128   sio_write_bytes sio_write_zeros sio_decide sio_volume_encode sio_encode_page sio_read_entry sio_write_entry
+ *           sio_check_file_len sio_decode_page sio_reserved_span
+ *     128   sio_write_bytes sio_write_zeros sio_decide sio_next_number sio_heal_number sio_plan_write sio_volume_encode
+ *           sio_encode_page sio_read_entry sio_write_entry
  *     192   sio_region_name
- *     256   sio_judge
- *     320   sio_encode sio_region_name_padded sio_plan_heal
- *     448   sio_header_facts sio_next_write sio_entry_name sio_entry_name_and_kind
+ *     320   sio_encode sio_region_name_padded
+ *     448   sio_header_facts sio_entry_name sio_entry_name_and_kind
+ *     512   sio_judge sio_next_write
+ *     576   sio_plan_heal
  *     640   sio_validate sio_frame_slot sio_entry_to_raw
  *     704   sio_check_entry
  *     960   sio_winner_payload
@@ -72,7 +74,7 @@
 #include <stddef.h>
 #include <stdint.h>
 
-#define SIO_VERSION 2
+#define SIO_VERSION 3
 
 /* ---- Constants ----
  *
@@ -104,7 +106,9 @@ enum {
     SIO_REFUSAL_EMPTY = 8,              /* frames of no bytes */
     SIO_REFUSAL_NO_PAIR = 8,            /* no pair with that number */
     SIO_REFUSAL_OUTPUT_LENGTH = 9,      /* verdicts of another length than four bytes a pair */
-    SIO_REFUSAL_OUT_OF_RANGE = 10,      /* not whole frames, a status above 12, facts above 2, a clean mark above 1 */
+    SIO_REFUSAL_OUT_OF_RANGE = 10,      /* not whole frames, a status above 12, facts above 2, a clean mark above 1, an operator
+                                         * above 15, or one of pair 0 that is not 0 */
+    SIO_REFUSAL_NO_OPERATOR = 10,       /* no operator with that number */
     SIO_REFUSAL_LENGTH = 11,            /* a record, page or entry of another length than its layout's, or a buffer too short */
     SIO_REFUSAL_DUPLICATE = 12,         /* two entries of a page with one sequence number */
     SIO_REFUSAL_UNALIGNED = 13,         /* an offset or a size that is not whole blocks */
@@ -211,13 +215,15 @@ enum {
     SIO_MAX_LOG2_SLOT_SIZE = 16
 };
 enum {
-    SIO_HEADER_LEN = 128, /* a slot's header */
-    SIO_PART_LEN = 34,    /* a slot's part of a frame */
-    SIO_FRAME_LEN = 68,   /* a pair's frame */
-    SIO_MOST_PAIRS = 112, /* the most pairs of a store that is judged */
-    SIO_VERDICT_LEN = 4,  /* a pair's verdict */
-    SIO_VOLUME_LEN = 64,  /* a volume record */
-    SIO_BASE_LEN = 48,    /* its base */
+    SIO_HEADER_LEN = 128,    /* a slot's header */
+    SIO_PART_LEN = 34,       /* a slot's part of a frame */
+    SIO_FRAME_LEN = 69,      /* a pair's frame: the parts of A and of B, then its operator */
+    SIO_FRAME_OPERATOR = 68, /* where the operator stands in a frame */
+    SIO_MOST_OPERATOR = 15,  /* the highest operator */
+    SIO_MOST_PAIRS = 112,    /* the most pairs of a store that is judged */
+    SIO_VERDICT_LEN = 4,     /* a pair's verdict */
+    SIO_VOLUME_LEN = 64,     /* a volume record */
+    SIO_BASE_LEN = 48,       /* its base */
     SIO_PAGE_HEADER_LEN = 24,
     SIO_ENTRY_LEN = 96, /* an entry of a page */
     SIO_NAME_LEN = 24,  /* a stored name */
@@ -511,8 +517,12 @@ uint32_t sio_winner_payload(const uint8_t *a, size_t a_len, const uint8_t *b, si
 
 /* ---- The store ----
  *
- * A store is a row of pairs: pair 0 holds the volume record, each other pair a table page. What follows is the protocol of a
- * host that opens, writes, heals and closes one. Only such a host has what sio_next_write promises.
+ * A store is a row of pairs: pair 0 holds the volume record, each other pair a table page. Each pair is of one operator, a
+ * number from 0 to SIO_MOST_OPERATOR, pair 0 of operator 0. The writes of each operator are numbered by themselves. Which pair
+ * is whose is the host's to know: no slot says it. A host that has one operator alone writes 0 for every pair.
+ *
+ * What follows is the protocol of a host that opens, writes, heals and closes a store. Only such a host has what sio_next_write
+ * promises.
  *
  * Open.
  *   1. Read both slots of pair 0. Its record is the payload that sio_winner_payload names; sio_volume_decode gives the fields,
@@ -520,7 +530,8 @@ uint32_t sio_winner_payload(const uint8_t *a, size_t a_len, const uint8_t *b, si
  *      refuses, there is no store to open; nor where the record counts more than 111 table pages, since a store of more than
  *      SIO_MOST_PAIRS pairs is not judged.
  *   2. Read every slot of every pair whole, and fill its part of the frames with sio_frame_slot. A slot that could not be read
- *      is 34 bytes of 0, and never a slot of zeros.
+ *      is 34 bytes of 0, and never a slot of zeros. Into byte SIO_FRAME_OPERATOR of each frame the host writes the pair's
+ *      operator, 0 for pair 0. It is stored nowhere, so the host has to hand over the same one for a pair each time.
  *   3. Judge: sio_judge, with the clean mark of that record.
  *   4. Take a pair's record where its verdict names a winner: the payload that sio_winner_payload names of the same bytes. It
  *      counts where its decoder accepts it: sio_volume_decode of pair 0, sio_decode_page of a page, and of each of its entries
@@ -551,14 +562,15 @@ uint32_t sio_winner_payload(const uint8_t *a, size_t a_len, const uint8_t *b, si
  *   - makes up a generation, a number or a previous checksum, or takes one out of a frame;
  *   - writes by a plan that is older than the last write;
  *   - begins a write before the last one is durable, or while another host has the store open for writing;
- *   - hands over another clean mark than that of pair 0's record;
+ *   - hands over another clean mark than that of pair 0's record, or another operator for a pair than for its writes before;
  *   - writes a record that its decoder refuses.
  */
 
-/* Judges a whole store from its frames, 68 bytes a pair: the parts of slot A and of slot B, as sio_frame_slot fills them. Pair
- * 0 is the volume record, and clean is its clean mark, 0 or 1. Refuses with 8 (no bytes), 45 (more than 7,616 bytes, which are
- * SIO_MOST_PAIRS frames), 10 (not whole frames), 9 (verdicts_len) or 10 (a value out of range), in this order, and leaves
- * verdicts and *judgement; else 0, and all of both is written.
+/* Judges a whole store from its frames, 69 bytes a pair: the parts of slot A and of slot B, as sio_frame_slot fills them, and
+ * the pair's operator, as the host writes it. Pair 0 is the volume record, and clean is its clean mark, 0 or 1. Refuses with 8
+ * (no bytes), 45 (more than 7,728 bytes, which are SIO_MOST_PAIRS frames), 10 (not whole frames), 9 (verdicts_len) or 10 (a
+ * value out of range, as an operator above 15, or one of pair 0 that is not 0), in this order, and leaves verdicts and
+ * *judgement; else 0, and all of both is written.
  *
  * verdicts, four bytes a pair, SIO_VERDICT_..: the standing (0 Confirmed, 1 Unconfirmed, 2 Lost, 3 Refused), the winner
  * (0 none, 1 A, 2 B), what became of A and of B (0 Winner, 1 Nothing, 2 OlderDamaged, 3 InFlight, 4 Damage).
@@ -573,9 +585,9 @@ uint32_t sio_judge(const uint8_t *frames, size_t frames_len, uint8_t clean, uint
 /* ---- The next write ----
  *
  * What a correct write is: which slot it goes to, and its generation, previous checksum and number. frames are as for
- * sio_judge. All five refuse as the judge does first, but 9: 8 (no bytes), 45 (more than 7,616 bytes), 10 (not whole frames),
+ * sio_judge. All five refuse as the judge does first, but 9: 8 (no bytes), 45 (more than 7,728 bytes), 10 (not whole frames),
  * 10 (a value out of range, the mark of sio_plan_heal too), and then as said at each. A refusal leaves every number, plan,
- * checksum and byte as it was.
+ * checksum and byte as it was. The plans take the operator from the pair's frame.
  *
  * They say what to write, not whether: that is the protocol's. What a pair is, sio_decide says of the two parts of its frame,
  * and not the judge, whose Lost takes in Empty and Fork.
@@ -593,26 +605,28 @@ uint32_t sio_judge(const uint8_t *frames, size_t frames_len, uint8_t clean, uint
  * follows a write that sets the clean mark.
  */
 
-/* The number of the next write: one above the highest of all numbered slots, 1 where there is none; 48 where that is 2^64. The
- * numbered slots are those under 12, and those under 11 with facts 2. */
-uint32_t sio_next_number(const uint8_t *frames, size_t frames_len, uint64_t *number);
+/* The number of an operator's next write: one above the highest of all numbered slots of its pairs, 1 where there is none. The
+ * numbered slots are those under 12, and those under 11 with facts 2. Then refused: 10 for an operator_id above 15; 48 where
+ * the number would be 2^64. */
+uint32_t sio_next_number(const uint8_t *frames, size_t frames_len, uint8_t operator_id, uint64_t *number);
 
-/* One above the numbers of all winners, 1 where there is none; 48 where that is 2^64. It is the number of a write that heals,
- * the one that sio_plan_heal gives, in every store that a history of writes leads to (docs/FORMAT.md, "A history of writes"). In
- * a damaged store it is not enough: a host heals by sio_plan_heal alone. */
-uint32_t sio_heal_number(const uint8_t *frames, size_t frames_len, uint64_t *number);
+/* One above the numbers of all winners of an operator's pairs, 1 where there is none. Then refused as by sio_next_number. It is
+ * the number of a write that heals a pair of that operator, the one that sio_plan_heal gives, in every store that a history of
+ * writes leads to (docs/FORMAT.md, "A history of writes"). In a damaged store it is not enough: a host heals by sio_plan_heal
+ * alone. */
+uint32_t sio_heal_number(const uint8_t *frames, size_t frames_len, uint8_t operator_id, uint64_t *number);
 
 /* The next write of the pair with that number, from 0: plan, SIO_PLAN_.., is the slot (1 A, 2 B), the generation, the previous
  * header's checksum and the number. The slot is that of sio_decide's byte 4, the generation one above the winner's, the
- * checksum the winner's own, the number that of sio_next_number; of an Empty pair slot 1, generation 1 and checksum 0. Of a
- * Fork, a Lost and a Refused pair four zeros. Then refused: 8 for a pair beyond the row; 48 where a slot is planned and its
- * generation or number would be 2^64. */
+ * checksum the winner's own, the number that of sio_next_number for the pair's operator; of an Empty pair slot 1, generation 1
+ * and checksum 0. Of a Fork, a Lost and a Refused pair four zeros. Then refused: 8 for a pair beyond the row; 48 where a slot
+ * is planned and its generation or number would be 2^64. */
 uint32_t sio_plan_write(const uint8_t *frames, size_t frames_len, size_t pair, uint64_t (*plan)[SIO_PLAN_VALUES]);
 
 /* The write that heals, under the clean mark, 0 or 1: plan, SIO_HEAL_.., is the pair, the slot that the judge names (1 A, 2 B),
  * the generation one above that of the pair's winner, the winner's own checksum, and one above the highest number of all
- * numbered slots but the named one. Five zeros where the judge names none. The payload to write is the winner's. Then refused:
- * 48 where a slot is named and its generation or number would be 2^64. */
+ * numbered slots of the pair's operator but the named one. Five zeros where the judge names none. The payload to write is the
+ * winner's. Then refused: 48 where a slot is named and its generation or number would be 2^64. */
 uint32_t sio_plan_heal(const uint8_t *frames, size_t frames_len, uint8_t clean, uint64_t (*plan)[SIO_HEAL_VALUES]);
 
 /* The plan of sio_plan_write, encoded in format 2 into slot, a buffer of 2^log2_slot_size bytes, with the header's checksum

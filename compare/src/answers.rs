@@ -2,7 +2,7 @@
 
 use crate::cut_records::{cells, Kind};
 use crate::ffi_pair::PairIdentity;
-use crate::frames::{BAD_HEADER, BAD_PAYLOAD, BLANK, FRAME, HALF, VALID};
+use crate::frames::{part_of, BAD_HEADER, BAD_PAYLOAD, BLANK, VALID};
 use crate::implementation::{Implementation, Judged, WinnerPayload};
 use crate::judge_reference::VERDICT;
 use crate::part::{number, Fields};
@@ -73,8 +73,7 @@ pub fn fill_frame(
     stored: &[u8],
 ) -> u32 {
     let (status, part) = tried.frame_slot(stored, &at.slot(slot as u32), at.numbered);
-    let start = FRAME * pair + HALF * slot;
-    frames[start..start + HALF].copy_from_slice(&part);
+    frames[part_of(pair, slot)].copy_from_slice(&part);
     status
 }
 

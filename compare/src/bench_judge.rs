@@ -1,8 +1,10 @@
-//! The judge to measure: on stores with one torn page where there is a page, and on stores with damage in every eighth pair.
+//! The judge to measure: on stores with one torn page where there is a page, of one operator and of several, on stores with damage in
+//! every eighth pair, and on the most pairs with a torn payload in every page. The Rust's judge knows no operators: the decoder reads and
+//! tests them, and of several the one torn page has the highest number of all, so that both answer alike.
 
 use crate::bench::{cells, Contestant, Table, OURS};
 use crate::ffi;
-use crate::frames::{packed, Cut, Store};
+use crate::frames::{bad_payload, operators_in_turn, packed, pair, valid, Cut, Pair, Store, SOUND_A};
 use crate::judge::{judge, PairRead, PairVerdict, SlotRead};
 use crate::judge_reference::{
     decode, judgement_numbers, verdict_bytes, JUDGEMENT, MOST_PAIRS, NOT_JUDGED, NOT_READ, VERDICT,
@@ -42,26 +44,71 @@ pub const JUDGE_DAMAGED: Table<Input> = Table {
     contestants: CONTESTANTS,
 };
 
+pub const JUDGE_OPERATORS: Table<Input> = Table {
+    title: "judge, sixteen operators, which the Rust takes for one",
+    unit: "pairs",
+    sizes: SIZES,
+    input: store_of_operators,
+    contestants: CONTESTANTS,
+};
+
+pub const JUDGE_ASCENDING: Table<Input> = Table {
+    title: "judge, torn payloads, ascending numbers",
+    unit: "pairs",
+    sizes: &[MOST_PAIRS],
+    input: |_, pairs| torn_payloads(0..pairs),
+    contestants: CONTESTANTS,
+};
+
+pub const JUDGE_DESCENDING: Table<Input> = Table {
+    title: "judge, torn payloads, descending numbers",
+    unit: "pairs",
+    sizes: &[MOST_PAIRS],
+    input: |_, pairs| torn_payloads((0..pairs).rev()),
+    contestants: CONTESTANTS,
+};
+
 fn torn_store(rng: &mut Rng, pairs: usize) -> Input {
-    let mut store = Store::new(rng, pairs);
+    let mut store = Store::new(rng, &vec![0; pairs]);
     store.write_some(rng, 2 * pairs);
     store.tear(rng, pairs / 2, Cut::Payload);
-    input(&store)
+    input(&store.row)
+}
+
+/// The torn page is written until its number is the highest of all operators.
+fn store_of_operators(rng: &mut Rng, pairs: usize) -> Input {
+    let mut store = Store::new(rng, &operators_in_turn(pairs));
+    store.write_some(rng, 2 * pairs);
+    for _ in 0..3 * pairs {
+        store.write(rng, pairs / 2);
+    }
+    store.tear(rng, pairs / 2, Cut::Payload);
+    input(&store.row)
+}
+
+/// After the volume record a page for each place but the first: a winner, and a torn payload with the number after it.
+fn torn_payloads(places: impl Iterator<Item = usize>) -> Input {
+    let torn = |place: usize| {
+        let winner = valid(2, 4 + 2 * place as u64);
+        pair(winner, bad_payload(3, winner.number + 1, winner.own))
+    };
+    let row: Vec<Pair> = [SOUND_A].into_iter().chain(places.skip(1).map(torn)).collect();
+    input(&row)
 }
 
 fn damaged_store(rng: &mut Rng, pairs: usize) -> Input {
-    let mut store = Store::new(rng, pairs);
+    let mut store = Store::new(rng, &vec![0; pairs]);
     store.write_some(rng, 2 * pairs);
     for pair in (0..pairs).step_by(8) {
         store.damage(rng, pair);
     }
-    input(&store)
+    input(&store.row)
 }
 
-fn input(store: &Store) -> Input {
-    let pairs = store.row.len();
+fn input(row: &[Pair]) -> Input {
+    let pairs = row.len();
     let mut input = Input {
-        frames: packed(&store.row),
+        frames: packed(row),
         verdict_bytes: vec![0; pairs * VERDICT],
         some_info: some_info(),
         pairs: vec![NOT_READ; pairs],

@@ -1,8 +1,9 @@
-//! The plan of a pair's next write to measure: on stores with one torn page where there is a page, for the last pair.
+//! The plan of a pair's next write to measure: on stores with one torn page where there is a page, of one operator and of several, for the
+//! last pair.
 
 use crate::bench::{cells, Contestant, Table, OURS};
 use crate::ffi_plan;
-use crate::frames::{packed, Cut, Store, BAD_PAYLOAD, FRAME, HALF};
+use crate::frames::{operators_in_turn, packed, Cut, Pair, Slot, Store, FRAME};
 use crate::judge_reference::MOST_PAIRS;
 use crate::pair::decide;
 use crate::rng::Rng;
@@ -16,43 +17,57 @@ pub struct Input {
     some_info: SlotInfo,
 }
 
+const SIZES: &[usize] = &[1, 16, MOST_PAIRS];
+
+const CONTESTANTS: &[Contestant<Input>] =
+    &[Contestant { name: "Rust in one pass", call: rust_plan }, Contestant { name: OURS, call: our_plan }];
+
 pub const PLAN_WRITE: Table<Input> = Table {
     title: "next write, planned",
     unit: "pairs",
-    sizes: &[1, 16, MOST_PAIRS],
-    input: torn_store,
-    contestants: &[Contestant { name: "Rust in one pass", call: rust_plan }, Contestant { name: OURS, call: our_plan }],
+    sizes: SIZES,
+    input: |rng, pairs| torn_store(rng, &vec![0; pairs]),
+    contestants: CONTESTANTS,
 };
 
-fn torn_store(rng: &mut Rng, pairs: usize) -> Input {
-    let mut store = Store::new(rng, pairs);
+pub const PLAN_WRITE_OPERATORS: Table<Input> = Table {
+    title: "next write, planned, sixteen operators",
+    unit: "pairs",
+    sizes: SIZES,
+    input: |rng, pairs| torn_store(rng, &operators_in_turn(pairs)),
+    contestants: CONTESTANTS,
+};
+
+fn torn_store(rng: &mut Rng, operators: &[u8]) -> Input {
+    let pairs = operators.len();
+    let mut store = Store::new(rng, operators);
     store.write_some(rng, 2 * pairs);
     store.tear(rng, pairs / 2, Cut::Payload);
     Input { frames: packed(&store.row), some_info: some_info() }
 }
 
-fn field<const N: usize>(part: &[u8], at: usize) -> [u8; N] {
-    std::array::from_fn(|i| part[at + i])
-}
-
 /// The status that a part has the code of, with what `decide` looks at.
-fn part_status(some_info: &SlotInfo, part: &[u8]) -> SlotStatus {
+fn part_status(some_info: &SlotInfo, part: &Slot) -> SlotStatus {
     let mut info = *some_info;
-    info.generation = u64::from_le_bytes(field(part, 2));
-    info.header_crc32c = u32::from_le_bytes(field(part, 18));
-    info.prev_header_crc32c = u32::from_le_bytes(field(part, 22));
-    status(part[0].into(), &info).expect("a code is out of range")
+    info.generation = part.generation;
+    info.header_crc32c = part.own;
+    info.prev_header_crc32c = part.previous;
+    status(part.code.into(), &info).expect("a code is out of range")
 }
 
 fn rust_plan(input: &mut Input) -> u64 {
+    let last = Pair::read(&input.frames[input.frames.len() - FRAME..]);
     let mut most = 0;
-    for part in input.frames.chunks_exact(HALF) {
-        assert!(part[0] <= 12 && part[1] <= 2, "a value is out of range");
-        if part[0] == 12 || part[0] == BAD_PAYLOAD && part[1] == 2 {
-            most = most.max(u64::from_le_bytes(field(part, 10)));
+    for (at, frame) in input.frames.chunks_exact(FRAME).enumerate() {
+        let pair = Pair::read(frame);
+        assert!(pair.is_in_range(at), "a value is out of range");
+        if pair.operator == last.operator {
+            for slot in pair.slots.iter().filter(|slot| slot.is_numbered()) {
+                most = most.max(slot.number);
+            }
         }
     }
-    let (a, b) = input.frames[input.frames.len() - FRAME..].split_at(HALF);
+    let [a, b] = &last.slots;
     let report = decide(part_status(&input.some_info, a), part_status(&input.some_info, b));
     let (Some(index), Some((_, winner))) = (report.next_write(), report.winner_info()) else { return 0 };
     let plan = [index as u64 + 1, winner.generation + 1, winner.header_crc32c.into(), most + 1];

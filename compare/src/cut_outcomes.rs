@@ -6,8 +6,10 @@ use crate::cut_records::Kind;
 use crate::cut_store::{Pair, Write, MOST_OF_SMALL};
 use crate::cutting::Cutting;
 use crate::part::Run;
+use crate::planning::{number_written, NUMBERS_WRITTEN};
 use crate::sample::{HEADER, HEADER_CRC, SMALLEST_LOG2};
 use crate::tear::{Medium, Tear, SECTOR};
+use std::collections::BTreeSet;
 
 const VOLUME_BLANK: &str = "cut of pair 0 over a blank slot";
 const VOLUME_OLDER: &str = "cut of pair 0 over an older slot";
@@ -53,6 +55,8 @@ const MARK: &str = "clean mark handed";
 const SLOT: &str = "slot written";
 const SIZE: &str = "slot of bytes";
 const PAIRS: &str = "store of pairs";
+const NUMBER: &str = "number written";
+const IN_FLIGHT: &str = "torn payload, healed: its number";
 
 /// A torn header with the checksum that the winner has as its previous one: a first A has none before it.
 const SAME_CHECKSUM: &str = "winner's previous checksum";
@@ -62,11 +66,29 @@ const LATER: &str = "beside a later one, not healed";
 const SECTORS: &str = "sectors written";
 const RECORD: &str = "record within";
 
+/// How many operators the pairs of a store have.
+pub const OPERATORS: &str = "store of operators";
+pub const COUNTS_OF_OPERATORS: &[Answer] = &[ONE, SEVERAL];
+const ONE: Answer = Answer::Decision("one");
+const SEVERAL: Answer = Answer::Decision("several");
+
+pub fn operators_answer(operators: impl Iterator<Item = u8>) -> Answer {
+    let operators: BTreeSet<u8> = operators.collect();
+    if operators.len() > 1 {
+        SEVERAL
+    } else {
+        ONE
+    }
+}
+
 /// Of every trial.
 pub const ANY: &[Function] = &[
     Function::part(MARK, &[Answer::Decision("false"), Answer::Decision("true")]),
     Function::part(SLOT, &[Answer::Decision("A"), Answer::Decision("B")]),
     Function::part(PAIRS, &COUNTS_OF_PAIRS),
+    Function::part(OPERATORS, COUNTS_OF_OPERATORS),
+    Function::part(NUMBER, NUMBERS_WRITTEN),
+    Function::part(IN_FLIGHT, NUMBERS_WRITTEN),
 ];
 
 /// Where bytes are written in ascending order.
@@ -145,6 +167,9 @@ pub fn outcome(cutting: &Cutting, left: Left, write: &Write, tear: Tear) -> Answ
 }
 
 pub fn count_cut(run: &mut Run, cutting: &Cutting, left: Left, write: &Write, tear: Tear) {
+    if left == Left::TornPayload {
+        run.counts.add_part(IN_FLIGHT, number_written(write.above_all));
+    }
     let mut add = |name, answer| run.counts.add_part(name, Answer::Decision(answer));
     add(MARK, if cutting.mark(left) { "true" } else { "false" });
     match tear {
@@ -166,6 +191,8 @@ pub fn count_write(run: &mut Run, store: &[Pair], write: &Write, medium: Medium)
     run.counts.add_part(SIZE, SIZES[log2 - SMALLEST_LOG2 as usize]);
     run.counts.add_part(SLOT, Answer::Decision(["A", "B"][write.slot]));
     run.counts.add_part(PAIRS, COUNTS_OF_PAIRS[store.len() - 1]);
+    run.counts.add_part(OPERATORS, operators_answer(store.iter().map(|pair| pair.operator)));
+    run.counts.add_part(NUMBER, number_written(write.above_all));
     if medium == Medium::Sectors {
         let within = if HEADER + write.record.len() <= SECTOR { "one sector" } else { "several sectors" };
         run.counts.add_part(RECORD, Answer::Decision(within));

@@ -3,6 +3,7 @@
 use crate::cut_records::{clean_mark, Kind};
 use crate::ffi::{Identity, Version};
 use crate::ffi_pair::PairIdentity;
+use crate::frames::{random_operators, OPERATORS};
 use crate::implementation::Implementation;
 use crate::page_sample::{ENTRY, PAGE_HEADER};
 use crate::passing::stored_payload;
@@ -15,6 +16,7 @@ pub const MOST_OF_SMALL: usize = 8;
 /// A pair: its slots as they are stored, and what is known of the slot that wins.
 pub struct Pair {
     pub kind: Kind,
+    pub operator: u8,
     pub at: PairIdentity,
     pub slots: [Vec<u8>; 2],
     /// 0 for A, 1 for B.
@@ -39,6 +41,8 @@ pub struct Write {
     pub mark: bool,
     /// The header has the checksum that the winner has as its previous one.
     pub same_checksum: bool,
+    /// Its number is above those of all operators.
+    pub above_all: bool,
     pub new: Vec<u8>,
 }
 
@@ -50,28 +54,41 @@ pub fn random_store(rng: &mut Rng, tried: &dyn Implementation, medium: Medium) -
 /// A sound store of so many pairs; `log2` draws the size of each pair's slots.
 pub fn store_of(rng: &mut Rng, tried: &dyn Implementation, pairs: usize, log2: impl Fn(&mut Rng) -> u8) -> Vec<Pair> {
     let volume = (rng.any(), rng.any());
-    let numbers = random_numbers(rng, pairs);
-    let numbers = numbers.into_iter().enumerate();
-    numbers.map(|(at, numbers)| random_pair(rng, tried, &log2, at, volume, numbers)).collect()
+    let operators = random_operators(rng, pairs);
+    let numbers = random_numbers(rng, &operators);
+    let numbered = operators.into_iter().zip(numbers).enumerate();
+    numbered.map(|(at, numbered)| random_pair(rng, tried, &log2, at, volume, numbered)).collect()
 }
 
-/// Two rising numbers for each pair; the highest has a number above it. As a store hands them out, anything, or a few
-/// that many pairs share.
-fn random_numbers(rng: &mut Rng, pairs: usize) -> Vec<[u64; 2]> {
+/// Two rising numbers for each pair; the highest has a number above it. As a store hands them out to each operator, anything,
+/// or a few that many pairs share.
+fn random_numbers(rng: &mut Rng, operators: &[u8]) -> Vec<[u64; 2]> {
     match rng.below(4) {
-        0 => (0..pairs).map(|_| rising(rng, u64::MAX - 1)).collect(),
-        1 => (0..pairs).map(|_| rising(rng, 4)).collect(),
+        0 => operators.iter().map(|_| rising(rng, u64::MAX - 1)).collect(),
+        1 => operators.iter().map(|_| rising(rng, 4)).collect(),
         _ => {
-            let mut numbers: Vec<u64> = (0..2 * pairs as u64).collect();
-            for i in 1..numbers.len() {
-                numbers.swap(i, rng.below(i + 1));
+            let mut numbers = vec![[0; 2]; operators.len()];
+            for operator in 0..OPERATORS as u8 {
+                let own: Vec<usize> = (0..operators.len()).filter(|at| operators[*at] == operator).collect();
+                for (at, two) in own.iter().zip(handed_out(rng, own.len())) {
+                    numbers[*at] = two;
+                }
             }
-            let most = rng.pick(&[1, 1000, u64::MAX - 2 * pairs as u64]);
-            let lowest = rng.between(1, most);
-            let two = numbers.chunks_exact(2).map(|two| [two[0].min(two[1]), two[0].max(two[1])]);
-            two.map(|two| two.map(|number| lowest + number)).collect()
+            numbers
         }
     }
+}
+
+/// The numbers of all writes to so many pairs, two to each.
+fn handed_out(rng: &mut Rng, pairs: usize) -> Vec<[u64; 2]> {
+    let mut numbers: Vec<u64> = (0..2 * pairs as u64).collect();
+    for i in 1..numbers.len() {
+        numbers.swap(i, rng.below(i + 1));
+    }
+    let most = rng.pick(&[1, 1000, u64::MAX - 2 * pairs as u64]);
+    let lowest = rng.between(1, most);
+    let two = numbers.chunks_exact(2).map(|two| [two[0].min(two[1]), two[0].max(two[1])]);
+    two.map(|two| two.map(|number| lowest + number)).collect()
 }
 
 fn rising(rng: &mut Rng, highest: u64) -> [u64; 2] {
@@ -86,7 +103,7 @@ fn random_pair(
     log2: &impl Fn(&mut Rng) -> u8,
     at: usize,
     volume: (u64, u64),
-    [older, newer]: [u64; 2],
+    (operator, [older, newer]): (u8, [u64; 2]),
 ) -> Pair {
     let log2_slot_size = log2(rng);
     let fit = fitting_entries(1 << log2_slot_size);
@@ -113,7 +130,8 @@ fn random_pair(
     let (first, own) = tried.encode(&at.slot(slot as u32), &version(rng, generation, older, previous), &record);
     let mut slots = [vec![0; first.len()], vec![0; first.len()]];
     slots[slot] = first;
-    let mut pair = Pair { kind, at, slots, winner: slot, blank, generation, number: older, own, previous, record };
+    let mut pair =
+        Pair { kind, operator, at, slots, winner: slot, blank, generation, number: older, own, previous, record };
     if !blank {
         pair.record = kind.record(rng, fit, Some(&pair.record), false);
         pair.winner = 1 - slot;
@@ -144,8 +162,10 @@ fn version(rng: &mut Rng, generation: u64, number: u64, previous: u32) -> Versio
 /// A correct write of any pair. What counts for nothing in the slot below it is filled here: bytes after a blank header
 /// or after an older payload, anything or what is about to be written there.
 pub fn random_write(rng: &mut Rng, tried: &dyn Implementation, medium: Medium, store: &mut [Pair]) -> Write {
-    let highest = store.iter().map(|pair| pair.number).max().unwrap_or(0);
     let written = medium.pair(rng, store.len());
+    let own = store.iter().filter(|pair| pair.operator == store[written].operator);
+    let highest = own.map(|pair| pair.number).max().unwrap_or(0);
+    let above_all = store.iter().all(|pair| pair.number <= highest);
     let pair = &mut store[written];
     let slot = 1 - pair.winner;
     let fit = fitting_entries(pair.slots[slot].len());
@@ -166,7 +186,7 @@ pub fn random_write(rng: &mut Rng, tried: &dyn Implementation, medium: Medium, s
         1 => below.copy_from_slice(&new[counts..]),
         _ => (),
     }
-    Write { pair: written, slot, record, mark, same_checksum, new }
+    Write { pair: written, slot, record, mark, same_checksum, above_all, new }
 }
 
 /// The compatible flags with which a header has the lowest `bits` of the checksum `wanted`. The checksum is a sum without

@@ -2,7 +2,7 @@
 
 use crate::answers::{confirmed, fill_frame, owners_differ, verdict, Answers, Left, ReadBack, IN_FLIGHT, NOTHING};
 use crate::cut_store::{Pair, Write};
-use crate::frames::{BLANK, FRAME, VALID};
+use crate::frames::{unread, BLANK, VALID};
 use crate::implementation::Implementation;
 use crate::judge_reference::VERDICT;
 use crate::part::{number, Fields};
@@ -50,7 +50,8 @@ pub struct Cutting<'a> {
 impl<'a> Cutting<'a> {
     pub fn new(tried: &'a dyn Implementation, store: &'a [Pair], write: &'a Write) -> Self {
         let slots = store[write.pair].slots.clone();
-        let mut cutting = Self { tried, store, write, slots, frames: vec![0; FRAME * store.len()] };
+        let frames = unread(store.iter().map(|pair| pair.operator));
+        let mut cutting = Self { tried, store, write, slots, frames };
         for at in 0..store.len() {
             for slot in 0..2 {
                 cutting.fill_frame(at, slot);
@@ -160,6 +161,7 @@ impl<'a> Cutting<'a> {
         vec![
             ("pairs", number(self.store.len())),
             ("written pair", number(*at)),
+            ("operator", number(pair.operator)),
             ("written slot", number(slot + 1)),
             ("volume0", number(pair.at.volume0)),
             ("volume1", number(pair.at.volume1)),

@@ -8,7 +8,7 @@ use crate::judge_reference::JUDGEMENT;
 use std::cell::Cell;
 
 /// The version of the interface that is called here.
-pub const VERSION: u32 = 2;
+pub const VERSION: u32 = 3;
 
 extern "C" {
     fn sio_version() -> u32;

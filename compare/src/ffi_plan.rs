@@ -5,8 +5,8 @@ use crate::ffi_pair::PairIdentity;
 use std::cell::Cell;
 
 extern "C" {
-    fn sio_next_number(frames: *const u8, frames_len: usize, number: *mut u64) -> u32;
-    fn sio_heal_number(frames: *const u8, frames_len: usize, number: *mut u64) -> u32;
+    fn sio_next_number(frames: *const u8, frames_len: usize, operator_id: u8, number: *mut u64) -> u32;
+    fn sio_heal_number(frames: *const u8, frames_len: usize, operator_id: u8, number: *mut u64) -> u32;
     fn sio_plan_write(frames: *const u8, frames_len: usize, pair: usize, plan: *mut [u64; 4]) -> u32;
     fn sio_plan_heal(frames: *const u8, frames_len: usize, clean: u8, plan: *mut [u64; 5]) -> u32;
     fn sio_next_write(
@@ -39,12 +39,12 @@ pub struct Written {
 
 // SAFETY: as in ffi.rs.
 
-pub fn next_number(frames: &Bytes, number: &Cell<u64>) -> u32 {
-    unsafe { sio_next_number(address(frames), frames.len(), number.as_ptr()) }
+pub fn next_number(frames: &Bytes, operator: u8, number: &Cell<u64>) -> u32 {
+    unsafe { sio_next_number(address(frames), frames.len(), operator, number.as_ptr()) }
 }
 
-pub fn heal_number(frames: &Bytes, number: &Cell<u64>) -> u32 {
-    unsafe { sio_heal_number(address(frames), frames.len(), number.as_ptr()) }
+pub fn heal_number(frames: &Bytes, operator: u8, number: &Cell<u64>) -> u32 {
+    unsafe { sio_heal_number(address(frames), frames.len(), operator, number.as_ptr()) }
 }
 
 pub fn plan_write(frames: &Bytes, pair: usize, plan: &Cell<[u64; 4]>) -> u32 {

@@ -2,11 +2,15 @@
 
 use crate::judge_reference::MOST_PAIRS;
 use crate::rng::Rng;
-use std::ops::RangeInclusive;
+use std::ops::{Range, RangeInclusive};
 
-/// The bytes of a pair, and of each slot in it.
-pub const FRAME: usize = 2 * HALF;
+/// The bytes of a slot's part of a frame; the place of the operator after both parts; the bytes of a pair.
 pub const HALF: usize = 34;
+const OPERATOR: usize = 2 * HALF;
+pub const FRAME: usize = OPERATOR + 1;
+
+/// How many operators there are.
+pub const OPERATORS: usize = 16;
 
 /// Lengths of frames from a pair and a byte fewer than the most pairs have to as much more.
 pub const MOST_LENGTHS: RangeInclusive<usize> = (MOST_PAIRS - 1) * FRAME - 1..=(MOST_PAIRS + 1) * FRAME + 1;
@@ -23,8 +27,12 @@ pub struct Slot {
     pub owner: u64,
 }
 
-/// Slot A and slot B.
-pub type Pair = [Slot; 2];
+/// Slot A, slot B, and the operator: the writes of each are numbered by themselves.
+#[derive(Clone, Copy)]
+pub struct Pair {
+    pub slots: [Slot; 2],
+    pub operator: u8,
+}
 
 impl Slot {
     /// From the start of these bytes.
@@ -53,6 +61,49 @@ impl Slot {
         part[26..].copy_from_slice(&self.owner.to_le_bytes());
         part
     }
+
+    /// Its number counts: it is Valid, or its payload alone fails.
+    pub fn is_numbered(&self) -> bool {
+        self.code == VALID || self.code == BAD_PAYLOAD && self.facts == 2
+    }
+}
+
+impl Pair {
+    /// From the start of these bytes.
+    #[inline(always)]
+    pub fn read(frame: &[u8]) -> Self {
+        let frame: &[u8; FRAME] = frame.first_chunk().expect("the bytes of a frame");
+        Self { slots: [Slot::read(frame), Slot::read(&frame[HALF..])], operator: frame[OPERATOR] }
+    }
+
+    pub fn packed(&self) -> [u8; FRAME] {
+        let mut frame = [0; FRAME];
+        frame[..HALF].copy_from_slice(&self.slots[0].packed());
+        frame[HALF..OPERATOR].copy_from_slice(&self.slots[1].packed());
+        frame[OPERATOR] = self.operator;
+        frame
+    }
+
+    /// As pair `at` of a row all its values are in range.
+    #[inline(always)]
+    pub fn is_in_range(&self, at: usize) -> bool {
+        self.operator <= most_operator(at) && self.slots.iter().all(|slot| slot.code <= VALID && slot.facts <= 2)
+    }
+
+    /// The same slots under another operator.
+    pub const fn by_operator(self, operator: u8) -> Self {
+        Self { operator, ..self }
+    }
+}
+
+/// The highest operator that pair `at` of a row may have: the volume record has 0.
+#[inline(always)]
+pub fn most_operator(at: usize) -> u8 {
+    if at == 0 {
+        0
+    } else {
+        OPERATORS as u8 - 1
+    }
 }
 
 #[inline(always)]
@@ -61,7 +112,28 @@ fn field<const N: usize>(part: &[u8; HALF], at: usize) -> [u8; N] {
 }
 
 pub fn packed(row: &[Pair]) -> Vec<u8> {
-    row.iter().flatten().flat_map(Slot::packed).collect()
+    row.iter().flat_map(Pair::packed).collect()
+}
+
+/// The pairs of whole frames.
+pub fn row_read(frames: &[u8]) -> Vec<Pair> {
+    frames.chunks_exact(FRAME).map(Pair::read).collect()
+}
+
+/// Pairs of these operators, to be filled with the parts of their slots.
+pub fn unread(operators: impl Iterator<Item = u8>) -> Vec<u8> {
+    operators.flat_map(|operator| pair(nothing(0), nothing(0)).by_operator(operator).packed()).collect()
+}
+
+/// Where the part of a slot lies, 0 for A and 1 for B.
+pub fn part_of(pair: usize, slot: usize) -> Range<usize> {
+    let start = FRAME * pair + HALF * slot;
+    start..start + HALF
+}
+
+/// The same row with all pairs operator 0's.
+pub fn of_one_operator(row: &[Pair]) -> Vec<Pair> {
+    row.iter().map(|pair| pair.by_operator(0)).collect()
 }
 
 pub const BLANK: u8 = 2;
@@ -99,32 +171,37 @@ pub const fn bad_header(own: u32) -> Slot {
     Slot { code: BAD_HEADER, facts: 1, generation: 0, number: 0, own, previous: 0, owner: OTHER_OWNER }
 }
 
+/// A pair of operator 0.
+pub const fn pair(a: Slot, b: Slot) -> Pair {
+    Pair { slots: [a, b], operator: 0 }
+}
+
 // Pairs by what they are in a store where 4 is the highest number.
 
-pub const FIRST: Pair = [valid(1, 1), nothing(BLANK)];
-pub const SOUND_A: Pair = [valid(3, 4), valid(2, 3)];
-pub const SOUND_B: Pair = [valid(2, 3), valid(3, 4)];
-pub const TORN_HEADER_A: Pair = [bad_header(5), valid(2, 2)];
-pub const TORN_HEADER_B: Pair = [valid(1, 1), bad_header(PREVIOUS)];
-pub const TORN_PAYLOAD_A: Pair = [bad_payload(3, 5, OWN), valid(2, 2)];
-pub const TORN_PAYLOAD_B: Pair = [valid(2, 4), bad_payload(3, 5, OWN)];
-pub const NUMBER_BELOW: Pair = [valid(2, 3), bad_payload(3, 4, OWN)];
-pub const NUMBER_ABOVE: Pair = [bad_payload(3, 6, OWN), valid(2, 4)];
-pub const NUMBER_LAST: Pair = [valid(2, 4), bad_payload(3, u64::MAX, OWN)];
-pub const NO_LINK: Pair = [valid(2, 4), bad_payload(3, 5, PREVIOUS)];
-pub const OLDER_HEADER_A: Pair = [bad_header(PREVIOUS), valid(2, 4)];
-pub const OLDER_HEADER_B: Pair = [valid(3, 4), bad_header(PREVIOUS)];
-pub const OLDER_PAYLOAD_A: Pair = [bad_payload(1, 3, OWN), valid(2, 4)];
-pub const OLDER_PAYLOAD_B: Pair = [valid(3, 4), bad_payload(1, 5, OWN)];
-pub const UNREAD_A: Pair = [nothing(0), valid(2, 4)];
-pub const UNREAD_B: Pair = [valid(2, 4), nothing(0)];
-pub const BLANK_A: Pair = [nothing(BLANK), valid(1, 1)];
-pub const BLANK_B: Pair = [valid(2, 4), nothing(BLANK)];
-pub const LOST: Pair = [nothing(0), nothing(BLANK)];
-pub const LOST_NUMBER: Pair = [bad_payload(1, 5, OWN), bad_payload(2, 4, OWN)];
-pub const FORK: Pair = [valid(2, 4), valid(2, 5)];
-pub const REFUSED_A: Pair = [nothing(UNSUPPORTED), valid(2, 4)];
-pub const REFUSED_B: Pair = [valid(2, 5), nothing(INCOMPATIBLE)];
+pub const FIRST: Pair = pair(valid(1, 1), nothing(BLANK));
+pub const SOUND_A: Pair = pair(valid(3, 4), valid(2, 3));
+pub const SOUND_B: Pair = pair(valid(2, 3), valid(3, 4));
+pub const TORN_HEADER_A: Pair = pair(bad_header(5), valid(2, 2));
+pub const TORN_HEADER_B: Pair = pair(valid(1, 1), bad_header(PREVIOUS));
+pub const TORN_PAYLOAD_A: Pair = pair(bad_payload(3, 5, OWN), valid(2, 2));
+pub const TORN_PAYLOAD_B: Pair = pair(valid(2, 4), bad_payload(3, 5, OWN));
+pub const NUMBER_BELOW: Pair = pair(valid(2, 3), bad_payload(3, 4, OWN));
+pub const NUMBER_ABOVE: Pair = pair(bad_payload(3, 6, OWN), valid(2, 4));
+pub const NUMBER_LAST: Pair = pair(valid(2, 4), bad_payload(3, u64::MAX, OWN));
+pub const NO_LINK: Pair = pair(valid(2, 4), bad_payload(3, 5, PREVIOUS));
+pub const OLDER_HEADER_A: Pair = pair(bad_header(PREVIOUS), valid(2, 4));
+pub const OLDER_HEADER_B: Pair = pair(valid(3, 4), bad_header(PREVIOUS));
+pub const OLDER_PAYLOAD_A: Pair = pair(bad_payload(1, 3, OWN), valid(2, 4));
+pub const OLDER_PAYLOAD_B: Pair = pair(valid(3, 4), bad_payload(1, 5, OWN));
+pub const UNREAD_A: Pair = pair(nothing(0), valid(2, 4));
+pub const UNREAD_B: Pair = pair(valid(2, 4), nothing(0));
+pub const BLANK_A: Pair = pair(nothing(BLANK), valid(1, 1));
+pub const BLANK_B: Pair = pair(valid(2, 4), nothing(BLANK));
+pub const LOST: Pair = pair(nothing(0), nothing(BLANK));
+pub const LOST_NUMBER: Pair = pair(bad_payload(1, 5, OWN), bad_payload(2, 4, OWN));
+pub const FORK: Pair = pair(valid(2, 4), valid(2, 5));
+pub const REFUSED_A: Pair = pair(nothing(UNSUPPORTED), valid(2, 4));
+pub const REFUSED_B: Pair = pair(valid(2, 5), nothing(INCOMPATIBLE));
 
 pub const FORMS: [Pair; 24] = [
     FIRST,
@@ -165,16 +242,17 @@ pub const CUTS: [Cut; 2] = [Cut::Header, Cut::Payload];
 /// A sound store, until a write is torn.
 pub struct Store {
     pub row: Vec<Pair>,
-    next_number: u64,
+    /// Of each operator.
+    next_numbers: [u64; OPERATORS],
     owner: u64,
 }
 
 impl Store {
     /// Each pair in its first generation.
-    pub fn new(rng: &mut Rng, pairs: usize) -> Self {
-        let mut store = Self { row: Vec::new(), next_number: 1, owner: OWNER };
-        for _ in 0..pairs {
-            let pair = store.first_pair(rng);
+    pub fn new(rng: &mut Rng, operators: &[u8]) -> Self {
+        let mut store = Self { row: Vec::new(), next_numbers: [1; OPERATORS], owner: OWNER };
+        for operator in operators {
+            let pair = store.first_pair(rng, *operator);
             store.row.push(pair);
         }
         store
@@ -182,12 +260,11 @@ impl Store {
 
     /// Written some times; now and then with the last numbers or generations.
     pub fn random(rng: &mut Rng, pairs: usize) -> Self {
-        let mut store = Self { row: Vec::new(), next_number: 1, owner: OWNER };
-        if rng.one_in(8) {
-            store.next_number = u64::MAX - rng.below(3 * pairs + 3) as u64;
-        }
-        for _ in 0..pairs {
-            let pair = if rng.one_in(16) { store.late_pair(rng) } else { store.first_pair(rng) };
+        let operators = random_operators(rng, pairs);
+        let next_numbers = std::array::from_fn(|_| first_number(rng, pairs));
+        let mut store = Self { row: Vec::new(), next_numbers, owner: OWNER };
+        for operator in operators {
+            let pair = if rng.one_in(16) { store.late_pair(rng, operator) } else { store.first_pair(rng, operator) };
             store.row.push(pair);
         }
         let writes = rng.below(2 * pairs + 1);
@@ -195,37 +272,35 @@ impl Store {
         store
     }
 
-    fn first_pair(&mut self, rng: &mut Rng) -> Pair {
-        [self.version(rng, 1, 0), nothing(BLANK)]
+    fn first_pair(&mut self, rng: &mut Rng, operator: u8) -> Pair {
+        pair(self.version(rng, operator, 1, 0), nothing(BLANK)).by_operator(operator)
     }
 
-    fn late_pair(&mut self, rng: &mut Rng) -> Pair {
+    fn late_pair(&mut self, rng: &mut Rng, operator: u8) -> Pair {
         let generation = u64::MAX - 1 - rng.below(4) as u64;
         let previous = random_checksum(rng);
-        let older = self.version(rng, generation, previous);
-        let newer = self.version(rng, generation + 1, older.own);
-        if rng.one_in(2) {
-            [older, newer]
-        } else {
-            [newer, older]
-        }
+        let older = self.version(rng, operator, generation, previous);
+        let newer = self.version(rng, operator, generation + 1, older.own);
+        let pair = if rng.one_in(2) { pair(older, newer) } else { pair(newer, older) };
+        pair.by_operator(operator)
     }
 
-    /// A Valid slot with the next number.
-    fn version(&mut self, rng: &mut Rng, generation: u64, previous: u32) -> Slot {
-        let number = self.next_number;
-        self.next_number = number.saturating_add(1);
+    /// A Valid slot with the operator's next number.
+    fn version(&mut self, rng: &mut Rng, operator: u8, generation: u64, previous: u32) -> Slot {
+        let next = &mut self.next_numbers[usize::from(operator)];
+        let number = *next;
+        *next = number.saturating_add(1);
         let own = random_checksum(rng);
         Slot { code: VALID, facts: 2, generation, number, own, previous, owner: self.owner }
     }
 
     /// Writes a pair again, if its generation has a successor.
     pub fn write(&mut self, rng: &mut Rng, pair: usize) {
-        let [a, b] = self.row[pair];
+        let Pair { slots: [a, b], operator } = self.row[pair];
         let a_is_newer = b.code != VALID || a.code == VALID && a.generation > b.generation;
         let newer = if a_is_newer { a } else { b };
         if let Some(generation) = newer.generation.checked_add(1) {
-            self.row[pair][usize::from(a_is_newer)] = self.version(rng, generation, newer.own);
+            self.row[pair].slots[usize::from(a_is_newer)] = self.version(rng, operator, generation, newer.own);
         }
     }
 
@@ -242,9 +317,9 @@ impl Store {
 
     /// Writes a pair and cuts the write off.
     pub fn tear(&mut self, rng: &mut Rng, pair: usize, cut: Cut) {
-        let before = self.row[pair];
+        let before = self.row[pair].slots;
         self.write(rng, pair);
-        for (slot, old) in self.row[pair].iter_mut().zip(before) {
+        for (slot, old) in self.row[pair].slots.iter_mut().zip(before) {
             if slot.number != old.number || slot.code != old.code {
                 *slot = torn(rng, slot, cut);
             }
@@ -254,7 +329,7 @@ impl Store {
     /// Damages a slot of a pair, so that no torn write explains it.
     pub fn damage(&mut self, rng: &mut Rng, pair: usize) {
         let slot = rng.below(2);
-        let damaged = &mut self.row[pair][slot];
+        let damaged = &mut self.row[pair].slots[slot];
         *damaged = match rng.below(4) {
             0 => nothing(0),
             1 => nothing(MALFORMED),
@@ -262,6 +337,32 @@ impl Store {
             _ => bad_header(random_checksum(rng)),
         };
     }
+}
+
+/// The number that an operator's first write has: seldom a late one.
+fn first_number(rng: &mut Rng, pairs: usize) -> u64 {
+    match rng.below(16) {
+        0..=1 => u64::MAX - rng.below(3 * pairs + 3) as u64,
+        2..=3 => 1 + rng.below(2 * pairs + 1) as u64,
+        _ => 1,
+    }
+}
+
+/// One for each pair: of half of the rows no other than 0.
+pub fn random_operators(rng: &mut Rng, pairs: usize) -> Vec<u8> {
+    let choices: &[u8] = match rng.below(8) {
+        0..=3 => &[0],
+        4 => &[0, 1],
+        5 => &[1],
+        6 => &[0, 1, 2, 15],
+        _ => &[0, 1, 2, 3, 4, 5, 6, 7, 8, 9, 10, 11, 12, 13, 14, 15],
+    };
+    (0..pairs).map(|at| rng.pick(choices).min(most_operator(at))).collect()
+}
+
+/// One for each pair, all of them in turn.
+pub fn operators_in_turn(pairs: usize) -> Vec<u8> {
+    (0..pairs).map(|at| (at % OPERATORS) as u8).collect()
 }
 
 fn random_checksum(rng: &mut Rng) -> u32 {
@@ -292,11 +393,12 @@ pub fn random_row(rng: &mut Rng) -> Vec<Pair> {
 }
 
 pub fn row_of(rng: &mut Rng, pairs: usize) -> Vec<Pair> {
-    match rng.below(8) {
-        0..=1 => (0..pairs).map(|_| [few_values(rng), few_values(rng)]).collect(),
-        2 => (0..pairs).map(|_| rng.pick(&FORMS)).collect(),
-        _ => torn_store(rng, pairs),
-    }
+    let form: fn(&mut Rng) -> Pair = match rng.below(8) {
+        0..=1 => |rng| pair(few_values(rng), few_values(rng)),
+        2 => |rng| rng.pick(&FORMS),
+        _ => return torn_store(rng, pairs),
+    };
+    random_operators(rng, pairs).into_iter().map(|operator| form(rng).by_operator(operator)).collect()
 }
 
 /// Numbers and checksums collide.
@@ -344,22 +446,33 @@ fn torn_store(rng: &mut Rng, pairs: usize) -> Vec<Pair> {
 type Change = fn(&mut Rng, &mut [Pair], usize, usize);
 
 const CHANGES: &[Change] = &[
-    |rng, row, pair, side| row[pair][side].code = rng.below(13) as u8,
-    |rng, row, pair, side| row[pair][side].code = rng.pick(&[BAD_HEADER, BAD_PAYLOAD, VALID]),
-    |rng, row, pair, side| row[pair][side].facts = rng.below(3) as u8,
-    |rng, row, pair, side| row[pair][side] = nothing(rng.pick(&[0, BLANK, UNSUPPORTED, INCOMPATIBLE])),
-    |rng, row, pair, side| row[pair][side].number = row[rng.below(row.len())][rng.below(2)].number,
-    |rng, row, pair, side| row[pair][side].number = beside(rng, row[pair][side].number),
-    |rng, row, pair, side| row[pair][side].generation = beside(rng, row[pair][side].generation),
-    |_, row, pair, side| row[pair][side].generation = row[pair][1 - side].generation,
-    |rng, row, pair, side| row[pair][side].own ^= 1 << rng.below(32),
-    |_, row, pair, side| row[pair][side].own = row[pair][1 - side].previous,
-    |rng, row, pair, side| row[pair][side].previous ^= 1 << rng.below(32),
-    |rng, row, pair, side| row[pair][side].owner ^= 1 << rng.below(64),
-    |_, row, pair, side| row[pair][side].owner = row[pair][1 - side].owner,
-    |_, row, pair, _| row[pair].swap(0, 1),
-    |rng, row, pair, _| row[pair] = rng.pick(&FORMS),
+    |rng, row, pair, side| row[pair].slots[side].code = rng.below(13) as u8,
+    |rng, row, pair, side| row[pair].slots[side].code = rng.pick(&[BAD_HEADER, BAD_PAYLOAD, VALID]),
+    |rng, row, pair, side| row[pair].slots[side].facts = rng.below(3) as u8,
+    |rng, row, pair, side| row[pair].slots[side] = nothing(rng.pick(&[0, BLANK, UNSUPPORTED, INCOMPATIBLE])),
+    |rng, row, pair, side| row[pair].slots[side].number = row[rng.below(row.len())].slots[rng.below(2)].number,
+    |rng, row, pair, side| row[pair].slots[side].number = beside(rng, row[pair].slots[side].number),
+    |rng, row, pair, side| row[pair].slots[side].number = above_an_operator(rng, row),
+    |rng, row, pair, side| row[pair].slots[side].generation = beside(rng, row[pair].slots[side].generation),
+    |_, row, pair, side| row[pair].slots[side].generation = row[pair].slots[1 - side].generation,
+    |rng, row, pair, side| row[pair].slots[side].own ^= 1 << rng.below(32),
+    |_, row, pair, side| row[pair].slots[side].own = row[pair].slots[1 - side].previous,
+    |rng, row, pair, side| row[pair].slots[side].previous ^= 1 << rng.below(32),
+    |rng, row, pair, side| row[pair].slots[side].owner ^= 1 << rng.below(64),
+    |_, row, pair, side| row[pair].slots[side].owner = row[pair].slots[1 - side].owner,
+    |_, row, pair, _| row[pair].slots.swap(0, 1),
+    |rng, row, pair, _| row[pair].slots = rng.pick(&FORMS).slots,
+    |rng, row, pair, _| row[pair].operator = row[rng.below(row.len())].operator.min(most_operator(pair)),
+    |rng, row, pair, _| row[pair].operator = rng.below(OPERATORS).min(most_operator(pair).into()) as u8,
 ];
+
+/// One above the highest number in the pairs of some operator.
+fn above_an_operator(rng: &mut Rng, row: &[Pair]) -> u64 {
+    let operator = row[rng.below(row.len())].operator;
+    let numbers =
+        row.iter().filter(|pair| pair.operator == operator).flat_map(|pair| pair.slots.map(|slot| slot.number));
+    numbers.max().unwrap_or(0).wrapping_add(1)
+}
 
 /// One more or less, or in one bit another.
 fn beside(rng: &mut Rng, value: u64) -> u64 {
@@ -367,5 +480,40 @@ fn beside(rng: &mut Rng, value: u64) -> u64 {
         0 => value.wrapping_add(1),
         1 => value.wrapping_sub(1),
         _ => value ^ 1 << rng.below(64),
+    }
+}
+
+/// A value of a frame that has a range.
+#[derive(Clone, Copy)]
+pub enum Ranged {
+    Code,
+    Facts,
+    Operator,
+}
+
+impl Ranged {
+    pub const ALL: [Self; 3] = [Self::Code, Self::Facts, Self::Operator];
+
+    /// A place of it in the frame of pair `at`, and a number that is out of its range there.
+    pub fn out_of_range(self, rng: &mut Rng, at: usize) -> (usize, u8) {
+        let part = HALF * rng.below(2);
+        let (place, most) = match self {
+            Self::Code => (part, VALID),
+            Self::Facts => (part + 1, 2),
+            Self::Operator => (OPERATOR, most_operator(at)),
+        };
+        let least = usize::from(most) + 1;
+        let value = if rng.one_in(2) { least } else { least + rng.below(256 - least) };
+        (place, value as u8)
+    }
+
+    /// Sets one out of range in some pair, if there is one.
+    pub fn spoil(self, rng: &mut Rng, frames: &mut [u8]) {
+        let pairs = frames.len() / FRAME;
+        if pairs > 0 {
+            let pair = rng.below(pairs);
+            let (place, value) = self.out_of_range(rng, pair);
+            frames[FRAME * pair + place] = value;
+        }
     }
 }

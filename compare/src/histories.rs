@@ -77,7 +77,7 @@ fn steps(
 fn random_history(steps: &mut Steps) -> Checked {
     let store = random_store(&mut steps.run.rng, steps.tried);
     let mut history = History::new(steps.tried, store);
-    count_store(&mut steps.run, history.pairs.len());
+    count_store(&mut steps.run, &history);
     steps.every_pair(&history)?;
     let mut ended = WHOLE;
     for _ in 0..1 + steps.run.rng.below(MOST_WRITES) {

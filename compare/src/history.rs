@@ -4,7 +4,7 @@
 use crate::answers::{confirmed, fill_frame, owners_differ, verdict, Answers, Left, ReadBack};
 use crate::cut_store::{self, flags_for};
 use crate::ffi_plan::Written;
-use crate::frames::FRAME;
+use crate::frames::unread;
 use crate::history_pair::{Accident, Header, Pair, Whole, Write};
 use crate::implementation::{Implementation, Planned};
 use crate::judge_reference::VERDICT;
@@ -72,7 +72,7 @@ impl<'a> History<'a> {
     }
 
     fn all_frames(&self) -> Vec<u8> {
-        let mut frames = vec![0; FRAME * self.pairs.len()];
+        let mut frames = unread(self.pairs.iter().map(|pair| pair.operator));
         for (at, pair) in self.pairs.iter().enumerate() {
             for (slot, stored) in pair.slots.iter().enumerate() {
                 fill_frame(self.tried, &mut frames, (at, slot), &pair.at, stored);
@@ -86,14 +86,20 @@ impl<'a> History<'a> {
         self.pairs.iter().position(Pair::is_named)
     }
 
-    /// One above the highest of all numbered slots.
-    pub fn next_number(&self) -> Expected<u64> {
-        above(self.pairs.iter().flat_map(Pair::numbers))
+    /// One above the highest of the numbered slots of a pair's operator.
+    pub fn next_number(&self, pair: usize) -> Expected<u64> {
+        above(self.of_operator(pair).flat_map(Pair::numbers))
     }
 
-    /// One above the numbers of all winners.
-    pub fn heal_number(&self) -> Expected<u64> {
-        above(self.pairs.iter().map(|pair| pair.current.number()))
+    /// One above the numbers of the winners of a pair's operator.
+    pub fn heal_number(&self, pair: usize) -> Expected<u64> {
+        above(self.of_operator(pair).map(|pair| pair.current.number()))
+    }
+
+    /// All pairs of a pair's operator.
+    fn of_operator(&self, pair: usize) -> impl Iterator<Item = &Pair> {
+        let operator = self.pairs[pair].operator;
+        self.pairs.iter().filter(move |pair| pair.operator == operator)
     }
 
     fn plan(&self, pair: usize, number: Expected<u64>) -> Expected<Plan> {
@@ -105,22 +111,22 @@ impl<'a> History<'a> {
     /// The correct write of a pair: where a slot is named, that of its pair heals.
     pub fn next(&self, pair: usize) -> Expected<Plan> {
         let heals = self.named() == Some(pair);
-        self.plan(pair, if heals { self.heal_number() } else { self.next_number() })
+        self.plan(pair, if heals { self.heal_number(pair) } else { self.next_number(pair) })
     }
 
     /// What a host is told that asks for a pair.
     pub fn planned(&self, pair: usize) -> Planned {
-        let heal = self.named().map(|named| Ok((named, self.plan(named, self.heal_number())?))).transpose();
+        let heal = self.named().map(|named| Ok((named, self.plan(named, self.heal_number(named))?))).transpose();
         Planned {
-            next_number: self.next_number(),
-            heal_number: self.heal_number(),
-            write: self.plan(pair, self.next_number()).map(|plan| write_numbers(&Some(plan))),
+            next_number: self.next_number(pair),
+            heal_number: self.heal_number(pair),
+            write: self.plan(pair, self.next_number(pair)).map(|plan| write_numbers(&Some(plan))),
             heal: heal.map(|heal| heal_numbers(&heal)),
         }
     }
 
     pub fn planned_found(&self, pair: usize) -> Planned {
-        self.tried.planned(&self.frames, pair)
+        self.tried.planned(&self.frames, pair, self.pairs[pair].operator)
     }
 
     /// A write by a plan that is finished.
@@ -236,6 +242,7 @@ impl<'a> History<'a> {
             ("writes", writes.join(", ")),
             ("written pair", number(at)),
             ("written slot", number(slot + 1)),
+            ("operator", number(pair.operator)),
             ("volume0", number(pair.at.volume0)),
             ("volume1", number(pair.at.volume1)),
             ("object_id", number(pair.at.object_id)),

@@ -1,17 +1,17 @@
 //! Hosts that write wrongly: each must be seen to break a promise, so the promises can be seen to be broken.
 
 use crate::history::{History, CONFIRMED, DECODED, KNOWN, NAMED, UNMARKED};
-use crate::history_pair::Write;
+use crate::history_pair::{Pair, Write};
 use crate::history_writes::{new_record, new_written, random_pair, random_store, random_write};
 use crate::implementation::Library;
 use crate::part::Checked;
-use crate::plan_reference::Plan;
+use crate::plan_reference::{above, Plan};
 use crate::rng::Rng;
 use crate::trials::Running;
 use std::collections::BTreeMap;
 
 /// How many histories each host writes, and how many writes each has at most.
-const HISTORIES: usize = 100;
+const HISTORIES: usize = 200;
 const MOST_WRITES: usize = 40;
 
 struct Host {
@@ -54,9 +54,19 @@ impl Host {
 }
 
 const HOSTS: &[Host] = &[
-    Host::planning("heals with the number above all slots", |history, plan| {
-        let above = history.named().and_then(|_| history.next_number().ok());
-        Plan { number: above.unwrap_or(plan.number), ..plan }
+    Host::planning("heals with its operator's next number", |history, plan| {
+        let next = history.named().and_then(|named| history.next_number(named).ok());
+        Plan { number: next.unwrap_or(plan.number), ..plan }
+    }),
+    Host::planning("takes a number above all operators' slots", |history, plan| {
+        let above_all = above(history.pairs.iter().flat_map(Pair::numbers)).ok();
+        let free = above_all.filter(|_| history.named().is_none());
+        Plan { number: free.unwrap_or(plan.number), ..plan }
+    }),
+    Host::planning("heals above all operators' winners", |history, plan| {
+        let above_all = above(history.pairs.iter().map(|pair| pair.current.number())).ok();
+        let heal = above_all.filter(|_| history.named().is_some());
+        Plan { number: heal.unwrap_or(plan.number), ..plan }
     }),
     Host::planning("takes the highest number again", |_, plan| Plan { number: plan.number - 1, ..plan }),
     Host::planning("leaves a number out", |_, plan| Plan { number: plan.number.saturating_add(1), ..plan }),
@@ -140,7 +150,7 @@ impl Running for Hosts {
 
     fn print(&self) {
         for ((host, promise), histories) in &self.broken {
-            println!("{host:<40} {promise:<70} {histories:>4}");
+            println!("{host:<42} {promise:<70} {histories:>4}");
         }
     }
 

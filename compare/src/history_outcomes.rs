@@ -2,10 +2,11 @@
 
 use crate::answers::Left;
 use crate::counts::{Answer, Function};
-use crate::cut_outcomes::COUNTS_OF_PAIRS;
+use crate::cut_outcomes::{operators_answer, COUNTS_OF_OPERATORS, COUNTS_OF_PAIRS, OPERATORS};
 use crate::history::{History, Step};
-use crate::history_pair::{Header, Write};
+use crate::history_pair::{Header, Whole, Write};
 use crate::part::Run;
+use crate::planning::{number_written, NUMBERS_WRITTEN};
 use crate::tear::Tear;
 
 const FREE: &str = "write where no slot is named";
@@ -73,6 +74,11 @@ const PAIRS: &str = "store of pairs";
 const MORE: Answer = Answer::Decision("more");
 const ENDED: &str = "history ended";
 
+const FREE_OF: &str = "write where no slot is named, store of operators";
+const HEALING_OF: &str = "healing write, store of operators";
+const FREE_NUMBER: &str = "write where no slot is named, number";
+const HEALING_NUMBER: &str = "healing write, number";
+
 pub const WHOLE: &str = "after its last write";
 pub const USED_UP: &str = "no number or generation";
 
@@ -89,6 +95,11 @@ pub const RANDOM: &[Function] = &[
     Function::part(READ, &[Answer::Decision(FINISHED_LAST), Answer::Decision(BEGUN)]),
     Function::part(PAIRS, &COUNTS_OF_PAIRS),
     Function::part(PAIRS, &[MORE]),
+    Function::part(OPERATORS, COUNTS_OF_OPERATORS),
+    Function::part(FREE_OF, COUNTS_OF_OPERATORS),
+    Function::part(HEALING_OF, COUNTS_OF_OPERATORS),
+    Function::part(FREE_NUMBER, NUMBERS_WRITTEN),
+    Function::part(HEALING_NUMBER, NUMBERS_WRITTEN),
     Function::part(ENDED, &[Answer::Decision(WHOLE), Answer::Decision(USED_UP)]),
 ];
 
@@ -111,7 +122,22 @@ fn outcome(step: &Step, write: &Write) -> Option<(&'static str, Answer)> {
     Some((if step.heals == 0 { FREE } else { HEALING }, Answer::Decision(left)))
 }
 
+/// The operators of a store, and the number of a write beside those of all pairs that are not written.
+fn count_number(run: &mut Run, history: &History, step: &Step, write: &Write) {
+    let number = Whole::of(&write.bytes).number();
+    let mut others = history.pairs.iter().enumerate().filter(|(at, _)| *at != write.pair);
+    let above_all = others.all(|(_, pair)| pair.numbers().all(|other| other < number));
+    let (of, numbered) = if step.heals == 0 { (FREE_OF, FREE_NUMBER) } else { (HEALING_OF, HEALING_NUMBER) };
+    run.counts.add_part(of, operators(history));
+    run.counts.add_part(numbered, number_written(above_all));
+}
+
+fn operators(history: &History) -> Answer {
+    operators_answer(history.pairs.iter().map(|pair| pair.operator))
+}
+
 pub fn count_step(run: &mut Run, history: &History, step: &Step, write: &Write) {
+    count_number(run, history, step, write);
     if let Some((function, answer)) = outcome(step, write) {
         run.counts.add(function, answer);
     }
@@ -143,8 +169,9 @@ pub fn count_step(run: &mut Run, history: &History, step: &Step, write: &Write) 
     add(READ, if pair.current.record == pair.known[0] { FINISHED_LAST } else { BEGUN });
 }
 
-pub fn count_store(run: &mut Run, pairs: usize) {
-    run.counts.add_part(PAIRS, COUNTS_OF_PAIRS.get(pairs - 1).copied().unwrap_or(MORE));
+pub fn count_store(run: &mut Run, history: &History) {
+    run.counts.add_part(PAIRS, COUNTS_OF_PAIRS.get(history.pairs.len() - 1).copied().unwrap_or(MORE));
+    run.counts.add_part(OPERATORS, operators(history));
 }
 
 pub fn count_end(run: &mut Run, ended: &'static str) {

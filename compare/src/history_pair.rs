@@ -80,6 +80,7 @@ impl Accident {
 
 pub struct Pair {
     pub kind: Kind,
+    pub operator: u8,
     pub at: PairIdentity,
     pub slots: [Vec<u8>; 2],
     /// 0 for A, 1 for B.
@@ -139,9 +140,10 @@ impl Write {
 impl Pair {
     /// A pair of a sound store.
     pub fn new(pair: cut_store::Pair) -> Self {
-        let cut_store::Pair { kind, at, slots, winner, blank, record, .. } = pair;
+        let cut_store::Pair { kind, operator, at, slots, winner, blank, record, .. } = pair;
         Self {
             kind,
+            operator,
             at,
             winner,
             current: Whole::of(&slots[winner]),

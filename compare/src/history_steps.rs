@@ -107,8 +107,8 @@ impl Steps {
 
 fn planned_fields(planned: &Planned) -> Fields {
     vec![
-        ("next number", format!("{:x?}", planned.next_number)),
-        ("number above the winners", format!("{:x?}", planned.heal_number)),
+        ("operator's next number", format!("{:x?}", planned.next_number)),
+        ("number above its winners", format!("{:x?}", planned.heal_number)),
         ("plan of the pair", format!("{:x?}", planned.write)),
         ("plan that heals", format!("{:x?}", planned.heal)),
     ]

@@ -1,11 +1,13 @@
-//! What the Rust reference answers to one call of the judge.
+//! What is answered to one call of the judge: what judge_restated.rs has, held to the reference where all pairs are one operator's.
 //!
 //! The reference is what lies beside this module: at the root the Rust, in `weak` the Rust over a weak checksum.
 
 use super::judge::{self, JudgeError, Judgement, PairRead, PairVerdict, SlotRead, SlotVerdict, Standing};
 use super::slot::{HeaderFacts, NumberedHeader, SlotInfo, SlotStatus};
 use super::slot_reference::{index_number, some_info};
-use crate::frames::{Slot, FRAME, HALF};
+use crate::frames::{most_operator, of_one_operator, packed, row_read, Pair, Slot, FRAME};
+use crate::judge_restated;
+use crate::value::hex;
 use std::collections::BTreeSet;
 
 pub const NO_PAIR: u32 = 8;
@@ -48,35 +50,45 @@ pub fn judge_any(frames: &[u8], clean: u8, verdicts_len: usize) -> Result<Judged
     if !decode(&some_info(), frames, &mut pairs) || clean > 1 {
         return Err(BAD_FRAMES);
     }
-    let mut verdicts = vec![NOT_JUDGED; pairs.len()];
-    let judgement = judge::judge(&pairs, clean == 1, &mut verdicts).expect("the reference refuses a row of pairs");
-    let verdicts: Vec<u8> = verdicts.iter().flat_map(verdict_bytes).collect();
-    let [slot, pair, writable, clean, refused] = judgement_numbers(&judgement);
-    let differ = owners(frames, &verdicts).len() > 1;
+    let row = row_read(frames);
+    // The Rust takes all pairs for one operator's: where they are, the restated judge answers the same.
+    let rust = rust_judge(&pairs, clean == 1);
+    let alike = judge_restated::judge(&of_one_operator(&row), clean == 1);
+    assert!(alike == rust, "restated otherwise, with the mark {clean}: {}", hex(frames));
+    let (verdicts, [slot, pair, writable, clean, refused]) = judge_restated::judge(&row, clean == 1);
+    let differ = owners(&row, &verdicts).len() > 1;
     Ok(Judged { judgement: [slot, pair, writable, clean, refused, differ.into()], verdicts })
 }
 
+fn rust_judge(pairs: &[PairRead], clean: bool) -> (Vec<u8>, [u64; JUDGEMENT - 1]) {
+    let mut verdicts = vec![NOT_JUDGED; pairs.len()];
+    let judgement = judge::judge(pairs, clean, &mut verdicts).expect("the reference refuses a row of pairs");
+    (verdicts.iter().flat_map(verdict_bytes).collect(), judgement_numbers(&judgement))
+}
+
 /// The owner generations of the winners, each once. The reference judges without them.
-pub fn owners(frames: &[u8], verdicts: &[u8]) -> BTreeSet<u64> {
-    let pairs = frames.chunks(FRAME).zip(verdicts.chunks(VERDICT));
-    let winners = pairs.filter_map(|(frame, verdict)| Some(&frame[HALF * usize::from(verdict[1]).checked_sub(1)?..]));
-    winners.map(|part| Slot::read(part).owner).collect()
+pub fn owners(row: &[Pair], verdicts: &[u8]) -> BTreeSet<u64> {
+    let pairs = row.iter().zip(verdicts.chunks(VERDICT));
+    pairs.filter_map(|(pair, verdict)| Some(pair.slots[usize::from(verdict[1]).checked_sub(1)?].owner)).collect()
 }
 
 /// The refusal of the pairs of whole frames where `room` verdicts are lent, and the verdicts that are left.
 pub fn judge_records(frames: &[u8], clean: bool, room: usize) -> (u32, Vec<u8>) {
-    let mut pairs = vec![NOT_READ; frames.len() / FRAME];
-    assert!(decode(&some_info(), frames, &mut pairs), "a value is out of range");
+    let row = row_read(frames);
+    let mut pairs = vec![NOT_READ; row.len()];
+    assert!(decode(&some_info(), &packed(&of_one_operator(&row)), &mut pairs), "a value is out of range");
     let mut verdicts = vec![NOT_JUDGED; room];
+    let kept = verdicts.iter().flat_map(verdict_bytes).collect();
     if pairs.len() > MOST_PAIRS {
-        return (TOO_MANY_PAIRS, verdicts.iter().flat_map(verdict_bytes).collect());
+        return (TOO_MANY_PAIRS, kept);
     }
     let refusal = match judge::judge(&pairs, clean, &mut verdicts) {
         Err(JudgeError::Empty) => NO_PAIR,
         Err(JudgeError::OutputLength) => VERDICTS_LEN,
+        Ok(_) if row.iter().enumerate().any(|(at, pair)| pair.operator > most_operator(at)) => BAD_FRAMES,
         Ok(_) => panic!("the reference judges the row"),
     };
-    (refusal, verdicts.iter().flat_map(verdict_bytes).collect())
+    (refusal, kept)
 }
 
 /// A verdict to be overwritten.
@@ -89,16 +101,19 @@ pub const NOT_READ: PairRead = PairRead {
     b: SlotRead { status: SlotStatus::ReadError, facts: None },
 };
 
-/// Reads whole frames into as many pairs; false where a code or facts are out of range. `some_info` is the info of any slot, since no
-/// other module than the reference's can make one.
+/// Reads whole frames into as many pairs; false where a code, facts or an operator are out of range. `some_info` is the info of any slot,
+/// since no other module than the reference's can make one.
 #[inline(never)]
 pub fn decode(some_info: &SlotInfo, frames: &[u8], pairs: &mut [PairRead]) -> bool {
-    for (frame, pair) in frames.chunks_exact(FRAME).zip(pairs) {
-        let (a, b) = frame.split_at(HALF);
-        let (Some(a), Some(b)) = (slot_read(some_info, Slot::read(a)), slot_read(some_info, Slot::read(b))) else {
+    for (at, (frame, read)) in frames.chunks_exact(FRAME).zip(pairs).enumerate() {
+        let Pair { slots: [a, b], operator } = Pair::read(frame);
+        let (Some(a), Some(b)) = (slot_read(some_info, a), slot_read(some_info, b)) else {
             return false;
         };
-        *pair = PairRead { a, b };
+        if operator > most_operator(at) {
+            return false;
+        }
+        *read = PairRead { a, b };
     }
     true
 }

@@ -1,20 +1,24 @@
-//! Compares the judge of a store with the reference's judge.rs.
+//! Compares the judge of a store with the reference's judge.rs, and with the rule restated for several operators.
 
 use crate::counts::{Answer, Function};
 use crate::ffi;
-use crate::frames::{packed, random_row, BAD_HEADER, FRAME, HALF};
+use crate::frames::{of_one_operator, packed, random_row, row_read, Pair, Ranged, BAD_HEADER, FRAME, OPERATORS};
 use crate::judge_reference::{
     judge, judge_any, owners, Judged, BAD_FRAMES, NO_PAIR, TOO_MANY_PAIRS, VERDICT, VERDICTS_LEN,
 };
+use crate::judge_restated::{qualifies, torn_payloads};
 use crate::judging_sweep::sweep;
 use crate::lent::{Lent, LentCell};
 use crate::part::{number, Checked, Part, Report, Run};
 use crate::rng::Rng;
+use std::collections::BTreeSet;
 
 const JUDGE: &str = "sio_judge";
 const VOLUME: &str = "sio_judge: volume";
 const PAGE: &str = "sio_judge: page";
 const OWNERS: &str = "sio_judge: owners";
+const BY_OPERATOR: &str = "sio_judge: operators";
+const BY_FAULT: &str = "sio_judge: operator refused";
 const OTHER: &str = "sio_judge: the Rust's other answer";
 
 const REFUSALS: &[Answer] = &[
@@ -48,6 +52,29 @@ pub const WINNERS: &[Answer] = &[
     Answer::Decision("two owners, the volume record lost"),
 ];
 
+const BY_ITS_OPERATOR: &str = "qualifies by operator alone";
+const BY_ALL_SLOTS: &str = "would qualify by all slots";
+const HEALED: &str = "healed by operator alone";
+const NOT_HEALED: &str = "would be healed by all slots";
+
+/// The operators of the pairs beside the volume record's 0, and what they change: torn payloads that qualify, and slots that are healed.
+pub const OPERATORS_MET: &[Answer] = &[
+    Answer::Decision("operator 0 alone"),
+    Answer::Decision("one other operator"),
+    Answer::Decision("several other operators"),
+    Answer::Decision("all other operators"),
+    Answer::Decision(BY_ITS_OPERATOR),
+    Answer::Decision(BY_ALL_SLOTS),
+    Answer::Decision(HEALED),
+    Answer::Decision(NOT_HEALED),
+];
+
+const AT_THE_VOLUME: &str = "not 0 at the volume record";
+const TOO_HIGH: &str = "above 15 at a page";
+
+/// What of the operators alone is refused.
+const OPERATOR_FAULTS: &[Answer] = &[Answer::Decision(AT_THE_VOLUME), Answer::Decision(TOO_HIGH)];
+
 const TORN_HEADER: &str = "torn header not healed";
 const TORN_PAYLOAD: &str = "torn payload not healed";
 
@@ -74,6 +101,8 @@ pub const PART: Part = Part {
         Function::part(VOLUME, VERDICTS),
         Function::part(PAGE, VERDICTS),
         Function::part(OWNERS, WINNERS),
+        Function::part(BY_OPERATOR, OPERATORS_MET),
+        Function::part(BY_FAULT, OPERATOR_FAULTS),
         Function::part(OTHER, OTHERS),
     ],
     sweep,
@@ -115,32 +144,25 @@ const SPOILS: &[fn(&mut Rng, &mut Call)] = &[
     |rng, call| call.verdicts_len = rng.below(2 * call.verdicts_len + 2),
     |rng, call| call.verdicts_len = call.verdicts_len.saturating_add_signed(rng.pick(&[-4, -1, 1, 4])),
     |rng, call| call.clean = 2 + rng.below(254) as u8,
-    |rng, call| set_in_a_part(rng, call, 0, 13),
-    |rng, call| set_in_a_part(rng, call, 1, 3),
+    |rng, call| Ranged::Code.spoil(rng, &mut call.frames),
+    |rng, call| Ranged::Facts.spoil(rng, &mut call.frames),
+    |rng, call| Ranged::Operator.spoil(rng, &mut call.frames),
 ];
-
-/// Sets a byte of some part to `least` or more.
-fn set_in_a_part(rng: &mut Rng, call: &mut Call, at: usize, least: u8) {
-    let parts = call.frames.len() / HALF;
-    if parts > 0 {
-        let byte = at + HALF * rng.below(parts);
-        let value = if rng.one_in(2) { least } else { least + rng.below(256 - usize::from(least)) as u8 };
-        call.frames[byte] = value;
-    }
-}
 
 pub fn compare(run: &mut Run, call: &Call) -> Checked {
     let frames = Lent::holding(&mut run.rng, &call.frames);
     let mut verdicts = Lent::random(&mut run.rng, call.verdicts_len);
     let judgement = LentCell::random(&mut run.rng);
     let expected = judge(&call.frames, call.clean, call.verdicts_len);
-    if let Ok(judged) = &expected {
-        verdicts.expected_mut().copy_from_slice(&judged.verdicts);
-        count_verdicts(run, [VOLUME, PAGE], &call.frames, judged);
-        run.counts.add_part(OWNERS, owners_answer(&call.frames, judged));
-    }
-    if matches!(expected, Err(TOO_MANY_PAIRS)) {
-        run.counts.add_part(OTHER, other(&judge_any(&call.frames, call.clean, call.verdicts_len)));
+    match &expected {
+        Ok(judged) => {
+            verdicts.expected_mut().copy_from_slice(&judged.verdicts);
+            count_judged(run, [VOLUME, PAGE, OWNERS, BY_OPERATOR], &row_read(&call.frames), call.clean, judged);
+        }
+        Err(TOO_MANY_PAIRS) => {
+            run.counts.add_part(OTHER, other(&judge_any(&call.frames, call.clean, call.verdicts_len)));
+        }
+        Err(_) => count_operator_fault(run, call),
     }
     let expected_refusal = expected.as_ref().map_or_else(|refusal| *refusal, |_| 0);
     let expected_judgement = expected.as_ref().ok().map(|judged| judged.judgement);
@@ -191,10 +213,35 @@ pub fn judgement_answer(judged: &Judged) -> Answer {
     })
 }
 
-pub fn owners_answer(frames: &[u8], judged: &Judged) -> Answer {
+fn other(rust: &Result<Judged, u32>) -> Answer {
+    rust.as_ref().map_or_else(|refusal| Answer::Refusal(*refusal), |_| Answer::Done)
+}
+
+/// Counts a row that is judged: the volume record's verdict under one name, the pages' under another, then owners and operators.
+pub fn count_judged(
+    run: &mut Run,
+    [volume, page, owners, operators]: [&'static str; 4],
+    row: &[Pair],
+    clean: u8,
+    judged: &Judged,
+) {
+    for (at, (pair, verdict)) in row.iter().zip(judged.verdicts.chunks_exact(VERDICT)).enumerate() {
+        let place = if at == 0 { volume } else { page };
+        run.counts.add_part(place, Answer::Decision(verdict_name(verdict)));
+        if let Some(name) = not_healed(pair, verdict) {
+            run.counts.add_part(place, Answer::Decision(name));
+        }
+    }
+    run.counts.add_part(owners, owners_answer(row, judged));
+    for name in operators_met(row, clean, judged) {
+        run.counts.add_part(operators, Answer::Decision(name));
+    }
+}
+
+fn owners_answer(row: &[Pair], judged: &Judged) -> Answer {
     let winners: Vec<bool> = judged.verdicts.chunks(VERDICT).map(|verdict| verdict[1] != 0).collect();
     let count = winners.iter().filter(|won| **won).count();
-    Answer::Decision(match (count, owners(frames, &judged.verdicts).len()) {
+    Answer::Decision(match (count, owners(row, &judged.verdicts).len()) {
         (0, _) => "no winner",
         (1, _) => "one winner",
         (_, 1) => "one owner",
@@ -203,19 +250,35 @@ pub fn owners_answer(frames: &[u8], judged: &Judged) -> Answer {
     })
 }
 
-fn other(rust: &Result<Judged, u32>) -> Answer {
-    rust.as_ref().map_or_else(|refusal| Answer::Refusal(*refusal), |_| Answer::Done)
+fn operators_met(row: &[Pair], clean: u8, judged: &Judged) -> Vec<&'static str> {
+    let others: BTreeSet<u8> = row.iter().map(|pair| pair.operator).filter(|operator| *operator != 0).collect();
+    let mut met = vec![match others.len() {
+        0 => return vec!["operator 0 alone"],
+        1 => "one other operator",
+        count if count + 1 < OPERATORS => "several other operators",
+        _ => "all other operators",
+    }];
+    let alike = of_one_operator(row);
+    met.extend(torn_payloads(row).into_iter().filter_map(|torn| {
+        let [own, all] = [row, &alike].map(|row| qualifies(row, torn));
+        (own != all).then_some(if own { BY_ITS_OPERATOR } else { BY_ALL_SLOTS })
+    }));
+    let by_all = judge(&packed(&alike), clean, row.len() * VERDICT).map_or(0, |judged| judged.judgement[0]);
+    match (judged.judgement[0], by_all) {
+        (1.., 0) => met.push(HEALED),
+        (0, 1..) => met.push(NOT_HEALED),
+        _ => (),
+    }
+    met
 }
 
-/// Counts the volume record's verdict under one name, the pages' under another.
-pub fn count_verdicts(run: &mut Run, [volume, page]: [&'static str; 2], frames: &[u8], judged: &Judged) {
-    let pairs = frames.chunks_exact(FRAME).zip(judged.verdicts.chunks_exact(VERDICT));
-    for (at, (frame, verdict)) in pairs.enumerate() {
-        let place = if at == 0 { volume } else { page };
-        run.counts.add_part(place, Answer::Decision(verdict_name(verdict)));
-        if let Some(name) = not_healed(frame, verdict) {
-            run.counts.add_part(place, Answer::Decision(name));
-        }
+/// Counts frames that are judged once their operators are 0.
+fn count_operator_fault(run: &mut Run, call: &Call) {
+    let row = row_read(&call.frames);
+    let alike = packed(&of_one_operator(&row));
+    if alike.len() == call.frames.len() && judge(&alike, call.clean, call.verdicts_len).is_ok() {
+        let fault = if row[0].operator != 0 { AT_THE_VOLUME } else { TOO_HIGH };
+        run.counts.add_part(BY_FAULT, Answer::Decision(fault));
     }
 }
 
@@ -235,13 +298,13 @@ fn verdict_name(verdict: &[u8]) -> &'static str {
     }
 }
 
-fn not_healed(frame: &[u8], verdict: &[u8]) -> Option<&'static str> {
+fn not_healed(pair: &Pair, verdict: &[u8]) -> Option<&'static str> {
     let failed = match verdict {
-        [1, 1, ..] => HALF,
+        [1, 1, ..] => 1,
         [1, 2, ..] => 0,
         _ => return None,
     };
-    let alone = judge(frame, 0, VERDICT).ok()?;
+    let alone = judge(&packed(&of_one_operator(&[*pair])), 0, VERDICT).ok()?;
     let healed = alone.judgement[0] != 0;
-    healed.then_some(if frame[failed] == BAD_HEADER { TORN_HEADER } else { TORN_PAYLOAD })
+    healed.then_some(if pair.slots[failed].code == BAD_HEADER { TORN_HEADER } else { TORN_PAYLOAD })
 }

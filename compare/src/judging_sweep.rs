@@ -1,8 +1,9 @@
 //! Every case of a small range of stores to judge.
 
 use crate::frames::{
-    packed, Cut, Pair, Slot, Store, BAD_HEADER, BAD_PAYLOAD, CUTS, FIRST, FORMS, FRAME, HALF, LOST_NUMBER,
-    MOST_LENGTHS, NUMBER_BELOW, OTHER_OWNER, OWNER, SOUND_A, SOUND_B, TORN_HEADER_B, TORN_PAYLOAD_B, VALID,
+    bad_payload, nothing, packed, pair, part_of, valid, Cut, Pair, Slot, Store, BAD_HEADER, BAD_PAYLOAD, BLANK, CUTS,
+    FIRST, FORMS, FRAME, LOST_NUMBER, MOST_LENGTHS, NUMBER_BELOW, OPERATORS, OTHER_OWNER, OWNER, SOUND_A, SOUND_B,
+    TORN_HEADER_B, TORN_PAYLOAD_B, VALID,
 };
 use crate::judge_reference::{MOST_PAIRS, VERDICT};
 use crate::judging::{compare, Call};
@@ -18,6 +19,9 @@ pub fn sweep(run: &mut Run) -> Checked {
     single_bits(run)?;
     rows_of_forms(run)?;
     rows_of_owners(run)?;
+    every_operator(run)?;
+    all_operators(run)?;
+    operators_apart(run)?;
     every_place(run)?;
     two_places(run)?;
     long_rows(run)?;
@@ -27,11 +31,12 @@ pub fn sweep(run: &mut Run) -> Checked {
     values(run)
 }
 
-/// As the volume record and as a page, with both marks.
+/// As the volume record and as a page, of the volume record's operator and of another, with both marks.
 fn compare_pair(run: &mut Run, pair: Pair) -> Checked {
     for clean in [0, 1] {
         compare_row(run, &[pair], clean)?;
         compare_row(run, &[FIRST, pair], clean)?;
+        compare_row(run, &[FIRST, pair.by_operator(1)], clean)?;
     }
     Ok(())
 }
@@ -70,8 +75,8 @@ fn failed_slot(run: &mut Run, winner: Slot, code: u8, facts: u8) -> Checked {
                     previous: if previous { winner.own } else { other.previous },
                     ..other
                 };
-                compare_pair(run, [winner, other])?;
-                compare_pair(run, [other, winner])?;
+                compare_pair(run, pair(winner, other))?;
+                compare_pair(run, pair(other, winner))?;
             }
         }
     }
@@ -105,8 +110,8 @@ fn two_statuses(run: &mut Run) -> Checked {
             for facts in 0..=2 {
                 let a = Slot { facts, ..random_slot(&mut run.rng, a) };
                 let b = random_slot(&mut run.rng, b);
-                compare_pair(run, [a, b])?;
-                compare_pair(run, [b, a])?;
+                compare_pair(run, pair(a, b))?;
+                compare_pair(run, pair(b, a))?;
             }
         }
     }
@@ -138,8 +143,7 @@ fn single_bits(run: &mut Run) -> Checked {
                 others.push(Slot { own: older.own ^ 1 << bit, ..older });
             }
             for other in others {
-                let pair = if side == 0 { [other, winner] } else { [winner, other] };
-                compare_pair(run, pair)?;
+                compare_pair(run, if side == 0 { pair(other, winner) } else { pair(winner, other) })?;
             }
         }
     }
@@ -169,7 +173,7 @@ fn rows_of_owners(run: &mut Run) -> Checked {
             let row: Vec<Pair> = (0..pairs).map(|at| OWNED[forms / OWNED.len().pow(at) % OWNED.len()]).collect();
             for owners in 0..1 << (2 * pairs) {
                 let mut row = row.clone();
-                for (at, slot) in row.iter_mut().flatten().enumerate() {
+                for (at, slot) in row.iter_mut().flat_map(|pair| &mut pair.slots).enumerate() {
                     slot.owner = if owners >> at & 1 == 0 { OWNER } else { OTHER_OWNER };
                 }
                 compare_row(run, &row, 0)?;
@@ -180,6 +184,60 @@ fn rows_of_owners(run: &mut Run) -> Checked {
 }
 
 const OWNED: [Pair; 4] = [SOUND_A, SOUND_B, TORN_PAYLOAD_B, LOST_NUMBER];
+
+/// Every form as the volume record and as a page, with operators in range and out of it, and verdicts of the right and of a wrong length.
+fn every_operator(run: &mut Run) -> Checked {
+    for operator in (0..=OPERATORS as u8 + 1).chain([u8::MAX]) {
+        for form in FORMS {
+            for row in [[form.by_operator(operator), SOUND_A], [SOUND_A, form.by_operator(operator)]] {
+                let call = Call::new(packed(&row), 0);
+                for verdicts_len in [call.verdicts_len, call.verdicts_len + 1] {
+                    compare(run, &Call { frames: call.frames.clone(), clean: 0, verdicts_len })?;
+                }
+            }
+        }
+    }
+    Ok(())
+}
+
+/// A pair of each operator and one torn payload: its number around its own operator's highest and around the highest of all.
+fn all_operators(run: &mut Run) -> Checked {
+    let row: Vec<Pair> = (0..OPERATORS as u64)
+        .map(|operator| pair(valid(1, 10 + operator), nothing(BLANK)).by_operator(operator as u8))
+        .collect();
+    for number in 0..=12 + OPERATORS as u64 {
+        let torn = pair(valid(2, 2), bad_payload(3, number, valid(2, 2).own));
+        let mut of_the_volume = row.clone();
+        of_the_volume[0] = torn;
+        compare_row(run, &of_the_volume, 0)?;
+        for operator in 0..OPERATORS {
+            for place in [1, OPERATORS] {
+                let mut row = row.clone();
+                row.insert(place, torn.by_operator(operator as u8));
+                compare_row(run, &row, 0)?;
+            }
+        }
+    }
+    Ok(())
+}
+
+/// Every form beside a pair of its own or of another operator, ahead of it in number, level with it, or behind.
+fn operators_apart(run: &mut Run) -> Checked {
+    for form in FORMS {
+        for number in 0..=8 {
+            let beside = pair(valid(1, number), nothing(BLANK));
+            for operators in 0..OF_FEW.pow(3) {
+                let [own, other, last] = [1, OF_FEW, OF_FEW * OF_FEW].map(|place| operators / place % OF_FEW);
+                let [beside, last] = [beside.by_operator(other), FIRST.by_operator(last)];
+                compare_row(run, &[FIRST, form.by_operator(own), beside, last], 0)?;
+                compare_row(run, &[form, FIRST.by_operator(own), beside, last], 0)?;
+            }
+        }
+    }
+    Ok(())
+}
+
+const OF_FEW: u8 = 3;
 
 /// One torn write in every place of a row.
 fn every_place(run: &mut Run) -> Checked {
@@ -275,18 +333,22 @@ fn lengths(run: &mut Run) -> Checked {
     Ok(())
 }
 
-/// Every code, every facts and every mark, in every slot of three pairs, with verdicts of the right and of a wrong length.
+/// Every code, facts and operator in every place of three pairs, and every mark, with verdicts of the right and of a wrong length.
 fn values(run: &mut Run) -> Checked {
-    let good = Call::new(packed(&[FIRST, SOUND_B, FIRST]), 0);
+    let row = [FIRST, SOUND_B, FIRST];
+    let good = Call::new(packed(&row), 0);
     for value in 0..=255 {
         for verdicts_len in [good.verdicts_len, good.verdicts_len + 1] {
             compare(run, &Call { frames: good.frames.clone(), clean: value, verdicts_len })?;
-            for part in 0..6 {
-                for at in [0, 1] {
+            for pair in 0..3 {
+                for at in [0, 1].into_iter().flat_map(|slot| part_of(pair, slot).take(2)) {
                     let mut frames = good.frames.clone();
-                    frames[HALF * part + at] = value;
+                    frames[at] = value;
                     compare(run, &Call { frames, clean: 0, verdicts_len })?;
                 }
+                let mut row = row;
+                row[pair].operator = value;
+                compare(run, &Call { frames: packed(&row), clean: 0, verdicts_len })?;
             }
         }
     }

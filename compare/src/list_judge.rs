@@ -11,10 +11,10 @@
 //! the end of their field. At a refusal of the judge over frames verdicts and judgement are as they were.
 
 use crate::frames::{
-    bad_header, bad_payload, nothing, packed, valid, Pair, Slot, BAD_HEADER, BLANK, BLANK_A, BLANK_B, FIRST, FORK,
-    FRAME, HALF, LOST, LOST_NUMBER, NO_LINK, NUMBER_ABOVE, NUMBER_BELOW, NUMBER_LAST, OLDER_HEADER_A, OLDER_HEADER_B,
-    OLDER_PAYLOAD_A, OLDER_PAYLOAD_B, OTHER_OWNER, REFUSED_A, REFUSED_B, SOUND_A, SOUND_B, TORN_HEADER_A,
-    TORN_HEADER_B, TORN_PAYLOAD_A, TORN_PAYLOAD_B, UNREAD_A, UNREAD_B, VALID,
+    bad_header, bad_payload, nothing, packed, pair, valid, Pair, Slot, BAD_HEADER, BLANK, BLANK_A, BLANK_B, FIRST,
+    FORK, FRAME, HALF, LOST, LOST_NUMBER, NO_LINK, NUMBER_ABOVE, NUMBER_BELOW, NUMBER_LAST, OLDER_HEADER_A,
+    OLDER_HEADER_B, OLDER_PAYLOAD_A, OLDER_PAYLOAD_B, OTHER_OWNER, REFUSED_A, REFUSED_B, SOUND_A, SOUND_B,
+    TORN_HEADER_A, TORN_HEADER_B, TORN_PAYLOAD_A, TORN_PAYLOAD_B, UNREAD_A, UNREAD_B, VALID,
 };
 use crate::judge_reference::{judge, judge_records, Judged, MOST_PAIRS, VERDICT};
 use crate::list::List;
@@ -22,15 +22,22 @@ use crate::value::Value;
 
 /// In pair 1 the header of B is torn.
 const EXAMPLE: [Pair; 2] = [
-    [Slot { facts: 0, previous: 0, ..valid(1, 1) }, nothing(BLANK)],
-    [Slot { facts: 0, own: 0x2222_2222, previous: 0x3333_3333, ..valid(2, 2) }, bad_header(0x4444_4444)],
+    pair(Slot { facts: 0, previous: 0, ..valid(1, 1) }, nothing(BLANK)),
+    pair(Slot { facts: 0, own: 0x2222_2222, previous: 0x3333_3333, ..valid(2, 2) }, bad_header(0x4444_4444)),
 ];
 
 /// The pair with another owner in a slot.
 const fn by_other(mut pair: Pair, slot: usize) -> Pair {
-    pair[slot].owner = OTHER_OWNER;
+    pair.slots[slot].owner = OTHER_OWNER;
     pair
 }
+
+/// Ahead in number of every other pair, and beside a torn payload of the same number.
+const AHEAD: Pair = pair(valid(1, 9), nothing(BLANK));
+const SAME_NUMBER: Pair = pair(valid(1, 5), nothing(BLANK));
+
+/// A torn payload whose number is the lowest that one can have.
+const SECOND: Pair = pair(valid(1, 1), bad_payload(2, 2, 0x1111_1111));
 
 /// Clean mark and pairs.
 const ROWS: &[(u8, &[Pair])] = &[
@@ -52,9 +59,9 @@ const ROWS: &[(u8, &[Pair])] = &[
     (0, &[SOUND_A, NUMBER_BELOW]),
     (0, &[SOUND_A, NUMBER_ABOVE, NO_LINK]),
     (0, &[FIRST, NUMBER_LAST, LOST_NUMBER]),
-    (0, &[[valid(1, u64::MAX), nothing(BLANK)], [valid(2, 2), bad_payload(3, 0, 0x1111_1111)]]),
-    (0, &[FIRST, [valid(u64::MAX, 2), bad_payload(0, 3, 0x1111_1111)]]),
-    (0, &[FIRST, [valid(u64::MAX - 1, 2), bad_payload(u64::MAX, 3, 0x1111_1111)]]),
+    (0, &[pair(valid(1, u64::MAX), nothing(BLANK)), pair(valid(2, 2), bad_payload(3, 0, 0x1111_1111))]),
+    (0, &[FIRST, pair(valid(u64::MAX, 2), bad_payload(0, 3, 0x1111_1111))]),
+    (0, &[FIRST, pair(valid(u64::MAX - 1, 2), bad_payload(u64::MAX, 3, 0x1111_1111))]),
     // A torn volume record
     (0, &[TORN_HEADER_A, UNREAD_A, LOST]),
     (1, &[TORN_HEADER_B, SOUND_A]),
@@ -62,6 +69,21 @@ const ROWS: &[(u8, &[Pair])] = &[
     (0, &[TORN_PAYLOAD_B, NUMBER_LAST]),
     (0, &[TORN_HEADER_A, TORN_HEADER_B]),
     (0, &[TORN_PAYLOAD_B, REFUSED_B]),
+    // Operators: another one's number is ahead of a torn page's, level with it, or just below it
+    (0, &[AHEAD, TORN_PAYLOAD_B.by_operator(1)]),
+    (0, &[SAME_NUMBER, TORN_PAYLOAD_B.by_operator(1)]),
+    (0, &[AHEAD, SECOND.by_operator(15)]),
+    (0, &[SOUND_A, TORN_PAYLOAD_A.by_operator(15)]),
+    // Its own operator's number is ahead or level
+    (0, &[SOUND_A, AHEAD.by_operator(1), TORN_PAYLOAD_B.by_operator(1)]),
+    (0, &[SOUND_A, TORN_PAYLOAD_B.by_operator(1), SAME_NUMBER.by_operator(1)]),
+    // A torn volume record and a torn header beside another operator's number ahead
+    (0, &[TORN_PAYLOAD_A, AHEAD.by_operator(1)]),
+    (0, &[AHEAD, TORN_HEADER_B.by_operator(1)]),
+    // Clean mark, torn pages of two operators, and damage under another operator
+    (1, &[AHEAD, TORN_PAYLOAD_B.by_operator(1)]),
+    (0, &[AHEAD, TORN_PAYLOAD_B.by_operator(1), TORN_PAYLOAD_B.by_operator(2)]),
+    (0, &[AHEAD, TORN_PAYLOAD_B.by_operator(1), UNREAD_A.by_operator(2)]),
     // A volume record that is Unconfirmed or has no winner
     (1, &[UNREAD_B, SOUND_A]),
     (1, &[BLANK_A, TORN_HEADER_A]),
@@ -78,9 +100,9 @@ const ROWS: &[(u8, &[Pair])] = &[
     (0, &[SOUND_A, by_other(SOUND_B, 0), by_other(FIRST, 1)]),
     (0, &[SOUND_A, by_other(TORN_PAYLOAD_A, 1), by_other(FIRST, 0)]),
     // Facts that show too little or too much
-    (0, &[FIRST, [valid(2, 2), Slot { facts: 0, ..bad_header(7) }]]),
-    (0, &[FIRST, [valid(2, 2), Slot { code: BAD_HEADER, ..bad_payload(9, 9, 9) }]]),
-    (0, &[FIRST, [Slot { facts: 1, ..bad_payload(3, 3, 0x1111_1111) }, Slot { facts: 0, ..valid(2, 2) }]]),
+    (0, &[FIRST, pair(valid(2, 2), Slot { facts: 0, ..bad_header(7) })]),
+    (0, &[FIRST, pair(valid(2, 2), Slot { code: BAD_HEADER, ..bad_payload(9, 9, 9) })]),
+    (0, &[FIRST, pair(Slot { facts: 1, ..bad_payload(3, 3, 0x1111_1111) }, Slot { facts: 0, ..valid(2, 2) })]),
 ];
 
 /// Of the judge over frames: clean mark, length of the frames, length of the verdicts, and a byte of the frames with its
@@ -92,8 +114,8 @@ const REFUSALS: [(u8, usize, usize, usize, u8); 8] = [
     (2, 2 * FRAME, 2 * VERDICT - 1, 0, 13),
     (0, 2 * FRAME, 2 * VERDICT + 1, 0, VALID),
     (2, FRAME, VERDICT, 0, VALID),
-    (0, 2 * FRAME, 2 * VERDICT, 3 * HALF, 13),
-    (0, 2 * FRAME, 2 * VERDICT, 2 * HALF + 1, 3),
+    (0, 2 * FRAME, 2 * VERDICT, FRAME + HALF, 13),
+    (0, 2 * FRAME, 2 * VERDICT, FRAME + 1, 3),
 ];
 
 /// Of the judge over records: clean mark, pairs, and as how many verdicts are lent.
@@ -108,6 +130,10 @@ const ROW_REFUSALS: &[(u8, &[Pair], usize)] = &[
     (1, &[SOUND_A, FIRST, SOUND_B, TORN_HEADER_B, FIRST], 4),
 ];
 
+/// Of both judges: pairs with an operator that they must not have, and as how many verdicts are lent.
+const OPERATOR_REFUSALS: &[(&[Pair], usize)] =
+    &[(&[FIRST, SOUND_A.by_operator(16)], 2), (&[FIRST.by_operator(3), SOUND_A], 2), (&[FIRST.by_operator(255)], 0)];
+
 pub fn fill(list: &mut List) {
     for (clean, row) in ROWS {
         let frames = packed(row);
@@ -120,6 +146,10 @@ pub fn fill(list: &mut List) {
     }
     for (clean, row, room) in ROW_REFUSALS {
         over_records(list, *clean, &packed(row), *room);
+    }
+    for (row, room) in OPERATOR_REFUSALS {
+        over_frames(list, 0, room * VERDICT, &packed(row));
+        over_records(list, 0, &packed(row), *room);
     }
     // A byte more than the most pairs have, and a record more
     let frames = packed(&[SOUND_A; MOST_PAIRS + 1]);

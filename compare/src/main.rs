@@ -68,6 +68,7 @@ mod history_steps;
 mod history_writes;
 mod implementation;
 mod judge_reference;
+mod judge_restated;
 mod judging;
 mod judging_sweep;
 mod lent;

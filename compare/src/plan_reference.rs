@@ -1,11 +1,12 @@
 //! What a correct write is, from docs/FORMAT.md ("Frames", "Pairs", "Numbered slots", "What a correct write is"). Which slot is healed and
-//! which slots won, the Rust's judge says.
+//! which slots won, the judge's reference says.
 
 use crate::ffi::Version;
 use crate::ffi_pair::PairIdentity;
 use crate::ffi_plan::Written;
-use crate::frames::{Slot, BAD_PAYLOAD, BLANK, FRAME, HALF, INCOMPATIBLE, UNSUPPORTED, VALID};
+use crate::frames::{row_read, Pair, Slot, BLANK, FRAME, INCOMPATIBLE, OPERATORS, UNSUPPORTED, VALID};
 use crate::judge_reference::{self, BAD_FRAMES, MOST_PAIRS, NO_PAIR, TOO_MANY_PAIRS, VERDICT};
+use crate::judge_restated::numbered;
 use crate::slot_reference;
 
 /// No generation or no number is left.
@@ -50,8 +51,8 @@ pub fn heal_numbers(heal: &Option<(usize, Plan)>) -> [u64; 5] {
     })
 }
 
-/// The slots of all pairs, or the number of a refusal.
-fn read(frames: &[u8], clean: u8) -> Result<Vec<[Slot; 2]>, u32> {
+/// All pairs, or the number of a refusal.
+fn read(frames: &[u8], clean: u8) -> Result<Vec<Pair>, u32> {
     if frames.is_empty() {
         return Err(NO_PAIR);
     }
@@ -61,16 +62,20 @@ fn read(frames: &[u8], clean: u8) -> Result<Vec<[Slot; 2]>, u32> {
     if frames.len() % FRAME != 0 {
         return Err(BAD_FRAMES);
     }
-    let row: Vec<[Slot; 2]> = frames.chunks(FRAME).map(|frame| [0, HALF].map(|at| Slot::read(&frame[at..]))).collect();
-    if clean > 1 || row.iter().flatten().any(|slot| slot.code > VALID || slot.facts > 2) {
+    let row = row_read(frames);
+    if clean > 1 || row.iter().enumerate().any(|(at, pair)| !pair.is_in_range(at)) {
         return Err(BAD_FRAMES);
     }
     Ok(row)
 }
 
-/// Valid slots are numbered, and those whose payload alone fails.
-fn is_numbered(slot: &Slot) -> bool {
-    slot.code == VALID || slot.code == BAD_PAYLOAD && slot.facts == 2
+/// The same of a call that names an operator.
+fn read_for(frames: &[u8], operator: u8) -> Result<Vec<Pair>, u32> {
+    let row = read(frames, 0)?;
+    if usize::from(operator) >= OPERATORS {
+        return Err(BAD_FRAMES);
+    }
+    Ok(row)
 }
 
 /// One above the highest, 1 where there is none.
@@ -78,20 +83,22 @@ pub fn above(numbers: impl Iterator<Item = u64>) -> Result<u64, u32> {
     numbers.max().unwrap_or(0).checked_add(1).ok_or(USED_UP)
 }
 
-pub fn next_number(frames: &[u8]) -> Result<u64, u32> {
-    let row = read(frames, 0)?;
-    above(row.iter().flatten().filter(|slot| is_numbered(slot)).map(|slot| slot.number))
+pub fn next_number(frames: &[u8], operator: u8) -> Result<u64, u32> {
+    let row = read_for(frames, operator)?;
+    above(numbered(&row, operator).map(|(_, _, number)| number))
 }
 
-pub fn heal_number(frames: &[u8]) -> Result<u64, u32> {
-    let row = read(frames, 0)?;
+pub fn heal_number(frames: &[u8], operator: u8) -> Result<u64, u32> {
+    let row = read_for(frames, operator)?;
     let judged = judge_reference::judge(frames, 0, row.len() * VERDICT)?;
-    let winners = judged.verdicts.chunks(VERDICT).zip(&row).filter(|(verdict, _)| verdict[1] != 0);
-    above(winners.map(|(verdict, pair)| pair[usize::from(verdict[1]) - 1].number))
+    let own = row.iter().zip(judged.verdicts.chunks(VERDICT)).filter(|(pair, _)| pair.operator == operator);
+    let winners = own.filter(|(_, verdict)| verdict[1] != 0);
+    above(winners.map(|(pair, verdict)| pair.slots[usize::from(verdict[1]) - 1].number))
 }
 
 /// The slot that is written next, and the slot that the write follows; an Empty pair's first write follows none.
-fn next([a, b]: &[Slot; 2]) -> Option<(usize, Option<Slot>)> {
+fn next(pair: &Pair) -> Option<(usize, Option<Slot>)> {
+    let [a, b] = &pair.slots;
     let refused = |slot: &Slot| slot.code == UNSUPPORTED || slot.code == INCOMPATIBLE;
     if refused(a) || refused(b) {
         return None;
@@ -114,7 +121,7 @@ fn plan((slot, follows): (usize, Option<Slot>), number: Result<u64, u32>) -> Res
 pub fn plan_write(frames: &[u8], pair: usize) -> Result<Option<Plan>, u32> {
     let row = read(frames, 0)?;
     let pair = row.get(pair).ok_or(NO_PAIR)?;
-    next(pair).map(|next| plan(next, next_number(frames))).transpose()
+    next(pair).map(|next| plan(next, next_number(frames, pair.operator))).transpose()
 }
 
 /// The pair, and the plan of its heal.
@@ -125,13 +132,10 @@ pub fn plan_heal(frames: &[u8], clean: u8) -> Result<Option<(usize, Plan)>, u32>
         return Ok(None);
     }
     let (slot, pair) = (slot as usize - 1, pair as usize);
-    let others = row
-        .iter()
-        .enumerate()
-        .flat_map(|(i, slots)| slots.iter().enumerate().map(move |(j, found)| (i, j, found)))
-        .filter(|(i, j, found)| (*i, *j) != (pair, slot) && is_numbered(found));
-    let number = above(others.map(|(_, _, found)| found.number));
-    plan((slot, Some(row[pair][1 - slot])), number).map(|plan| Some((pair, plan)))
+    let Pair { slots, operator } = &row[pair];
+    let others = numbered(&row, *operator).filter(|(at, side, _)| (*at, *side) != (pair, slot));
+    let number = above(others.map(|(_, _, number)| number));
+    plan((slot, Some(slots[1 - slot])), number).map(|plan| Some((pair, plan)))
 }
 
 /// The plan, and the checksum of the header; the bytes are in the buffer.

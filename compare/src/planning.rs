@@ -5,9 +5,10 @@ use crate::faults::IMPOSSIBLE_LOG2S;
 use crate::ffi_pair::PairIdentity;
 use crate::ffi_plan::{self, Written};
 use crate::frames::{
-    nothing, packed, random_row, Pair, BLANK, FIRST, FORMS, FRAME, HALF, MOST_LENGTHS, SOUND_A, VALID,
+    nothing, packed, pair, random_row, row_read, Pair, Ranged, BLANK, FIRST, FORMS, FRAME, MOST_LENGTHS, OPERATORS,
+    SOUND_A, SOUND_B, VALID,
 };
-use crate::judge_reference::MOST_PAIRS;
+use crate::judge_reference::{BAD_FRAMES, MOST_PAIRS};
 use crate::lent::{Lent, LentCell};
 use crate::outcome::{answer, filled, Call, Expected, Held};
 use crate::part::{number, Checked, Fields, Part, Run};
@@ -27,9 +28,23 @@ const SLOT_B: Answer = Answer::Decision("slot B");
 const FIRST_WRITE: Answer = Answer::Decision("first write");
 const NONE: Answer = Answer::Decision("none");
 
-const NUMBERS: &[Answer] = &[Answer::Done];
+const ALONE: Answer = Answer::Decision("of all pairs");
+const SOME: Answer = Answer::Decision("of some pairs");
+const NO_PAIR: Answer = Answer::Decision("of no pair");
+const NO_OPERATOR: Answer = Answer::Decision("refusal 10, the operator");
+
+/// By the operator's pairs in the row.
+const NUMBERS: &[Answer] = &[ALONE, SOME, NO_PAIR, NO_OPERATOR];
 const PLANS: &[Answer] = &[SLOT_A, SLOT_B, FIRST_WRITE, NONE];
 const HEALS: &[Answer] = &[SLOT_A, SLOT_B, NONE];
+
+const WRITE_NUMBERED: &str = "sio_plan_write: number";
+const HEAL_NUMBERED: &str = "sio_plan_heal: number";
+const ABOVE_ALL: Answer = Answer::Decision("above all other slots");
+const NOT_ABOVE_ALL: Answer = Answer::Decision("not above all other slots");
+
+/// The number of a write beside those of all operators.
+pub const NUMBERS_WRITTEN: &[Answer] = &[ABOVE_ALL, NOT_ABOVE_ALL];
 
 /// Of all five functions, and of the next write besides.
 const REFUSALS: &[Answer] = &[Answer::Refusal(8), Answer::Refusal(45), Answer::Refusal(10), Answer::Refusal(48)];
@@ -48,14 +63,17 @@ pub const PART: Part = Part {
         Function::new(NEXT_WRITE, PLANS),
         Function::new(NEXT_WRITE, REFUSALS),
         Function::new(NEXT_WRITE, WRITES),
+        Function::part(WRITE_NUMBERED, NUMBERS_WRITTEN),
+        Function::part(HEAL_NUMBERED, NUMBERS_WRITTEN),
     ],
     sweep,
     round,
 };
 
-/// What is asked of one row: a pair, a mark, and what is written.
+/// What is asked of one row: an operator, a pair, a mark, and what is written.
 struct Asked {
     frames: Vec<u8>,
+    operator: u8,
     clean: u8,
     pair: usize,
     log2: u8,
@@ -64,28 +82,65 @@ struct Asked {
 }
 
 impl Asked {
-    /// Of the smallest slots, with a small payload.
+    /// Of the pair's operator and the smallest slots, with a small payload.
     fn new(row: &[Pair], clean: u8, pair: usize) -> Self {
-        Self { frames: packed(row), clean, pair, log2: SMALLEST_LOG2, slot_len: 1 << SMALLEST_LOG2, payload_len: 8 }
+        Self {
+            frames: packed(row),
+            operator: row.get(pair).map_or(0, |pair| pair.operator),
+            clean,
+            pair,
+            log2: SMALLEST_LOG2,
+            slot_len: 1 << SMALLEST_LOG2,
+            payload_len: 8,
+        }
     }
 }
 
 fn sweep(run: &mut Run) -> Checked {
     every_form(run)?;
+    every_operator(run)?;
     two_statuses(run)?;
     most_lengths(run)
 }
 
 /// Every form of a pair, alone and beside others, as it is and with the last numbers and generations.
 fn every_form(run: &mut Run) -> Checked {
-    for form in FORMS.iter().chain(&[[nothing(BLANK); 2]]) {
-        for pair in spellings(*form) {
-            for (row, at) in [(vec![pair], 0), (vec![FIRST, pair], 1), (vec![pair, SOUND_A], 0), (vec![pair, pair], 1)]
-            {
+    for form in all_forms() {
+        for pair in spellings(form) {
+            let other = pair.by_operator(1);
+            for (row, at) in [
+                (vec![pair], 0),
+                (vec![FIRST, pair], 1),
+                (vec![FIRST, other], 1),
+                (vec![pair, SOUND_A], 0),
+                (vec![pair, SOUND_A.by_operator(1)], 0),
+                (vec![pair, pair], 1),
+                (vec![pair, other], 1),
+            ] {
                 for clean in 0..=2 {
                     compare(run, &Asked::new(&row, clean, at))?;
                 }
                 compare(run, &Asked::new(&row, 0, row.len()))?;
+            }
+        }
+    }
+    Ok(())
+}
+
+/// With a pair that was never written.
+fn all_forms() -> impl Iterator<Item = Pair> {
+    FORMS.into_iter().chain([pair(nothing(BLANK), nothing(BLANK))])
+}
+
+/// Every operator and some that are none, asked for beside every form, and with every form.
+fn every_operator(run: &mut Run) -> Checked {
+    for operator in (0..=OPERATORS as u8 + 1).chain([u8::MAX]) {
+        for form in all_forms() {
+            let [own, other] = [operator, 2].map(|operator| form.by_operator(operator));
+            for row in [vec![SOUND_B, own], vec![SOUND_B, other], vec![FIRST, SOUND_A.by_operator(1), other, own]] {
+                for at in 0..row.len() {
+                    compare(run, &Asked { operator, ..Asked::new(&row, 0, at) })?;
+                }
             }
         }
     }
@@ -97,7 +152,7 @@ fn spellings(pair: Pair) -> Vec<Pair> {
     let mut pairs = vec![pair];
     for ends in 1..16 {
         let mut last = pair;
-        for (at, slot) in last.iter_mut().enumerate() {
+        for (at, slot) in last.slots.iter_mut().enumerate() {
             if ends >> at & 1 == 1 {
                 slot.number = u64::MAX;
             }
@@ -115,10 +170,10 @@ fn two_statuses(run: &mut Run) -> Checked {
     for a in 0..=VALID {
         for b in 0..=VALID {
             for facts in 0..9 {
-                let [mut first, mut second] = SOUND_A;
+                let [mut first, mut second] = SOUND_A.slots;
                 (first.code, first.facts) = (a, facts % 3);
                 (second.code, second.facts) = (b, facts / 3);
-                compare(run, &Asked::new(&[FIRST, [first, second]], 0, 1))?;
+                compare(run, &Asked::new(&[FIRST, pair(first, second)], 0, 1))?;
             }
         }
     }
@@ -149,6 +204,9 @@ fn round(run: &mut Run) -> Checked {
     let beyond = usize::from(rng.one_in(8));
     let pair = rng.below(row.len() + beyond);
     let mut asked = Asked::new(&row, clean, pair);
+    if rng.one_in(4) {
+        asked.operator = rng.below(OPERATORS) as u8;
+    }
     asked.log2 += rng.below(2) as u8;
     asked.slot_len = 1 << asked.log2;
     asked.payload_len = random_payload_len(rng, asked.slot_len - HEADER);
@@ -159,15 +217,14 @@ fn round(run: &mut Run) -> Checked {
 }
 
 fn spoil(rng: &mut Rng, asked: &mut Asked) {
-    let parts = asked.frames.len() / HALF;
-    match rng.below(8) {
+    match rng.below(10) {
         0 => asked.frames.clear(),
         1 => asked.frames.extend(vec![0; 1 + rng.below(FRAME)]),
-        2 => asked.frames[HALF * rng.below(parts)] = 13 + rng.below(243) as u8,
-        3 => asked.frames[HALF * rng.below(parts) + 1] = 3 + rng.below(253) as u8,
-        4 => asked.clean = 2 + rng.below(254) as u8,
-        5 => asked.log2 = rng.pick(&IMPOSSIBLE_LOG2S),
-        6 => asked.slot_len = rng.pick(&[0, asked.slot_len - 1, asked.slot_len + 1]),
+        2..=4 => rng.pick(&Ranged::ALL).spoil(rng, &mut asked.frames),
+        5 => asked.operator = OPERATORS as u8 + rng.below(256 - OPERATORS) as u8,
+        6 => asked.clean = 2 + rng.below(254) as u8,
+        7 => asked.log2 = rng.pick(&IMPOSSIBLE_LOG2S),
+        8 => asked.slot_len = rng.pick(&[0, asked.slot_len - 1, asked.slot_len + 1]),
         _ => asked.payload_len = asked.slot_len - HEADER + 1 + rng.below(9),
     }
 }
@@ -180,24 +237,63 @@ fn compare(run: &mut Run, asked: &Asked) -> Checked {
 }
 
 fn fields(asked: &Asked) -> Fields {
-    vec![("clean", number(asked.clean)), ("pair", number(asked.pair)), ("log2", number(asked.log2))]
+    vec![
+        ("operator", number(asked.operator)),
+        ("clean", number(asked.clean)),
+        ("pair", number(asked.pair)),
+        ("log2", number(asked.log2)),
+    ]
 }
 
 fn numbers(run: &mut Run, asked: &Asked) -> Checked {
     let frames = Lent::holding(&mut run.rng, &asked.frames);
+    let operator = asked.operator;
     for (function, call, expected) in [
-        (NEXT_NUMBER, ffi_plan::next_number as fn(&_, &_) -> u32, reference::next_number(&asked.frames)),
-        (HEAL_NUMBER, ffi_plan::heal_number, reference::heal_number(&asked.frames)),
+        (NEXT_NUMBER, ffi_plan::next_number as fn(&_, _, &_) -> u32, reference::next_number(&asked.frames, operator)),
+        (HEAL_NUMBER, ffi_plan::heal_number, reference::heal_number(&asked.frames, operator)),
     ] {
         let found = LentCell::random(&mut run.rng);
-        let refusal = call(frames.cells(), found.cell());
-        Call::new(function, &expected, refusal).compare(
+        let refusal = call(frames.cells(), operator, found.cell());
+        let answer = number_answer(asked, &expected);
+        Call { answer, ..Call::new(function, &expected, refusal) }.compare(
             run,
             &[("frames", &frames), ("number", &filled(&found, &expected, |number| *number))],
             || fields(asked),
         )?;
     }
     Ok(())
+}
+
+fn number_answer(asked: &Asked, expected: &Expected<u64>) -> Answer {
+    if *expected == Err(BAD_FRAMES) && reference::next_number(&asked.frames, 0) != Err(BAD_FRAMES) {
+        return NO_OPERATOR;
+    }
+    if expected.is_err() {
+        return answer(expected);
+    }
+    let row = row_read(&asked.frames);
+    match row.iter().filter(|pair| pair.operator == asked.operator).count() {
+        0 => NO_PAIR,
+        count if count < row.len() => SOME,
+        _ => ALONE,
+    }
+}
+
+/// Counts the number of a plan for a slot of a pair, 0 for A and 1 for B.
+fn count_number(run: &mut Run, part: &'static str, asked: &Asked, (pair, plan): (usize, &Plan)) {
+    let row = row_read(&asked.frames);
+    let places = row.iter().enumerate().flat_map(|(at, pair)| [0, 1].map(|slot| ((at, slot), pair.slots[slot])));
+    let mut others = places.filter(|(place, slot)| *place != (pair, plan.slot) && slot.is_numbered());
+    let above_all = others.all(|(_, slot)| slot.number < plan.number);
+    run.counts.add_part(part, number_written(above_all));
+}
+
+pub fn number_written(above_all: bool) -> Answer {
+    if above_all {
+        ABOVE_ALL
+    } else {
+        NOT_ABOVE_ALL
+    }
 }
 
 /// A call whose answer is counted by what was planned.
@@ -218,6 +314,9 @@ fn plan_write(run: &mut Run, asked: &Asked) -> Checked {
     let frames = Lent::holding(&mut run.rng, &asked.frames);
     let plan = LentCell::random(&mut run.rng);
     let expected = reference::plan_write(&asked.frames, asked.pair);
+    if let Ok(Some(plan)) = &expected {
+        count_number(run, WRITE_NUMBERED, asked, (asked.pair, plan));
+    }
     let refusal = ffi_plan::plan_write(frames.cells(), asked.pair, plan.cell());
     let name = |plan: &Option<Plan>| plan.as_ref().map_or(NONE, slot_answer);
     planned(PLAN_WRITE, &expected, refusal, name).compare(
@@ -231,6 +330,9 @@ fn plan_heal(run: &mut Run, asked: &Asked) -> Checked {
     let frames = Lent::holding(&mut run.rng, &asked.frames);
     let plan = LentCell::random(&mut run.rng);
     let expected = reference::plan_heal(&asked.frames, asked.clean);
+    if let Ok(Some((pair, plan))) = &expected {
+        count_number(run, HEAL_NUMBERED, asked, (*pair, plan));
+    }
     let refusal = ffi_plan::plan_heal(frames.cells(), asked.clean, plan.cell());
     let name =
         |heal: &Option<(usize, Plan)>| heal.map_or(NONE, |(_, plan)| if plan.slot == 0 { SLOT_A } else { SLOT_B });

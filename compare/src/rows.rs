@@ -3,9 +3,9 @@
 //! of few pairs.
 
 use crate::counts::{Answer, Counts, Function};
-use crate::frames::{packed, row_of};
-use crate::judge_reference::{MOST_PAIRS, NO_PAIR, TOO_MANY_PAIRS, VERDICT, VERDICTS_LEN};
-use crate::judging::{count_verdicts, judgement_answer, owners_answer, JUDGEMENTS, VERDICTS, WINNERS};
+use crate::frames::{packed, row_of, Ranged};
+use crate::judge_reference::{BAD_FRAMES, MOST_PAIRS, NO_PAIR, TOO_MANY_PAIRS, VERDICT, VERDICTS_LEN};
+use crate::judging::{count_judged, judgement_answer, JUDGEMENTS, OPERATORS_MET, VERDICTS, WINNERS};
 use crate::list::List;
 use crate::list_judge::{both, over_frames, over_records};
 use crate::part::{Checked, Report, Run};
@@ -17,8 +17,14 @@ const ROWS: &str = "judge over rows";
 const VOLUME: &str = "judge over rows: volume";
 const PAGE: &str = "judge over rows: page";
 const OWNERS: &str = "judge over rows: owners";
+const OPERATORS: &str = "judge over rows: operators";
 
-const REFUSALS: &[Answer] = &[Answer::Refusal(NO_PAIR), Answer::Refusal(TOO_MANY_PAIRS), Answer::Refusal(VERDICTS_LEN)];
+const REFUSALS: &[Answer] = &[
+    Answer::Refusal(NO_PAIR),
+    Answer::Refusal(TOO_MANY_PAIRS),
+    Answer::Refusal(VERDICTS_LEN),
+    Answer::Refusal(BAD_FRAMES),
+];
 
 /// The most pairs of a row and the most bytes of a list that the program takes; of the other rows the most pairs, and the most bytes of
 /// a line.
@@ -35,6 +41,7 @@ pub fn run(program: &str, seed: u64, lists: u64) -> ExitCode {
         Function::part(VOLUME, VERDICTS),
         Function::part(PAGE, VERDICTS),
         Function::part(OWNERS, WINNERS),
+        Function::part(OPERATORS, OPERATORS_MET),
     ];
     let mut run = Run { rng: Rng::new(seed), counts: Counts::new(functions.iter()) };
     for number in 0..lists {
@@ -96,11 +103,10 @@ fn compare(run: &mut Run, program: &str, pairs: usize) -> Checked {
 
 fn judged_row(run: &mut Run, list: &mut List, pairs: usize) {
     let clean = u8::from(list.rng.one_in(3));
-    let frames = packed(&row_of(&mut list.rng, pairs));
-    let judged = both(list, clean, &frames);
+    let row = row_of(&mut list.rng, pairs);
+    let judged = both(list, clean, &packed(&row));
     run.counts.add(ROWS, judgement_answer(&judged));
-    count_verdicts(run, [VOLUME, PAGE], &frames, &judged);
-    run.counts.add_part(OWNERS, owners_answer(&frames, &judged));
+    count_judged(run, [VOLUME, PAGE, OWNERS, OPERATORS], &row, clean, &judged);
 }
 
 /// More pairs than are judged: both judges refuse.
@@ -111,13 +117,20 @@ fn long_row(run: &mut Run, list: &mut List, pairs: usize) {
     }
 }
 
-/// No pair, or verdicts for another number of pairs.
+/// No pair, verdicts for another number of pairs, or an operator out of range.
 fn refused_row(run: &mut Run, list: &mut List) {
     let pairs = list.rng.below(FEW_PAIRS + 1);
-    let room = list.rng.below(FEW_PAIRS + 1);
     let clean = list.rng.below(2) as u8;
-    let row = if pairs == 0 { Vec::new() } else { row_of(&mut list.rng, pairs) };
-    let room = if room == pairs { pairs.saturating_sub(1) } else { room };
-    let refusal = over_records(list, clean, &packed(&row), room);
+    let mut frames = if pairs == 0 { Vec::new() } else { packed(&row_of(&mut list.rng, pairs)) };
+    let mut room = list.rng.below(FEW_PAIRS + 1);
+    if list.rng.one_in(2) {
+        Ranged::Operator.spoil(&mut list.rng, &mut frames);
+        if list.rng.one_in(2) {
+            room = pairs;
+        }
+    } else if room == pairs {
+        room = pairs.saturating_sub(1);
+    }
+    let refusal = over_records(list, clean, &frames, room);
     run.counts.add(ROWS, Answer::Refusal(refusal));
 }

@@ -1,7 +1,7 @@
 //! Runs the program `verdicts` on texts and compares what it prints with the reference's answer.
 
 use crate::counts::{Answer, Counts, Function};
-use crate::frames::{packed, row_of, Cut, Pair, Store, FRAME, HALF, VALID};
+use crate::frames::{packed, random_operators, row_of, Cut, Pair, Ranged, Store, FRAME};
 use crate::judge_reference::{judge, Judged, BAD_FRAMES, MOST_PAIRS, NO_PAIR, TOO_MANY_PAIRS, VERDICT};
 use crate::part::{Checked, Report, Run};
 use crate::program::{output, output_of_reads};
@@ -30,10 +30,10 @@ const MOST_LINES: usize = (LONGEST - MARK_LINE) / FRAME_LINE;
 const MARK_LINE: usize = 3;
 const FRAME_LINE: usize = 2 * FRAME + 1;
 
-/// A store whose second pair has a torn header in B, and what is printed of it.
+/// A store whose second pair, of operator 1, has a torn header in B, and what is printed of it.
 const EXAMPLE: &str = "00\n\
-    0c00010000000000000001000000000000001111111100000000000000000000000002000000000000000000000000000000000000000000000000000000000000000000\n\
-    0c00020000000000000002000000000000002222222233333333000000000000000004010000000000000000000000000000000044444444000000000000000000000000\n";
+    0c0001000000000000000100000000000000111111110000000000000000000000000200000000000000000000000000000000000000000000000000000000000000000000\n\
+    0c0002000000000000000200000000000000222222223333333300000000000000000401000000000000000000000000000000004444444400000000000000000000000001\n";
 const EXAMPLE_OUTPUT: &str = "00010001\n00010003\n020100000001000000\n";
 
 /// Texts that no change of a good one gives.
@@ -120,7 +120,8 @@ fn good_text(rng: &mut Rng, pairs: usize) -> Vec<u8> {
 
 /// A store with a torn write to heal.
 fn torn_text(rng: &mut Rng, pairs: usize, place: usize) -> Vec<u8> {
-    let mut store = Store::new(rng, pairs);
+    let operators = random_operators(rng, pairs);
+    let mut store = Store::new(rng, &operators);
     store.write_some(rng, pairs);
     store.tear(rng, place, Cut::Payload);
     text_of(0, &store.row)
@@ -150,8 +151,10 @@ const CHANGES: &[Change] = &[
     |_, text| text[1] = b'2',
     |_, text| text[0] = b'1',
     |_, text| text.extend_from_within(..MARK_LINE),
-    |rng, text| set_value(rng, text, 0, 13),
-    |rng, text| set_value(rng, text, 2, 3),
+    |rng, text| set_value(rng, text, Ranged::Code),
+    |rng, text| set_value(rng, text, Ranged::Facts),
+    |rng, text| set_value(rng, text, Ranged::Operator),
+    |rng, text| set_value_of(rng, text, Ranged::Operator, 0),
     |rng, text| remove_digits(rng, text, 1),
     |rng, text| remove_digits(rng, text, 2),
     |rng, text| insert(rng, text, b"0"),
@@ -194,11 +197,15 @@ fn set_digit(rng: &mut Rng, text: &mut [u8], value: fn(&mut Rng) -> u8) {
     text[at] = value(rng);
 }
 
-/// Sets a byte of some slot's part, which has its digits at `digits`, to `least` or more.
-fn set_value(rng: &mut Rng, text: &mut [u8], digits: usize, least: u8) {
-    let line = MARK_LINE + FRAME_LINE * rng.below(text.len() / FRAME_LINE);
-    let at = line + 2 * HALF * rng.below(2) + digits;
-    let value = if rng.one_in(2) { least } else { least + rng.below(256 - usize::from(least)) as u8 };
+/// Sets a value of some pair out of its range.
+fn set_value(rng: &mut Rng, text: &mut [u8], ranged: Ranged) {
+    let pair = rng.below(text.len() / FRAME_LINE);
+    set_value_of(rng, text, ranged, pair);
+}
+
+fn set_value_of(rng: &mut Rng, text: &mut [u8], ranged: Ranged, pair: usize) {
+    let (place, value) = ranged.out_of_range(rng, pair);
+    let at = MARK_LINE + FRAME_LINE * pair + 2 * place;
     text[at..at + 2].copy_from_slice(hex(&[value]).as_bytes());
 }
 
@@ -266,15 +273,15 @@ fn mark_and_frames(text: &[u8]) -> Option<(u8, Vec<u8>)> {
         _ => return None,
     };
     let mut frames = Vec::new();
-    for line in lines {
-        frames.extend(bytes_of(line).filter(|bytes| is_frame(bytes))?);
+    for (at, line) in lines.enumerate() {
+        frames.extend(bytes_of(line).filter(|bytes| is_frame(at, bytes))?);
     }
     Some((clean, frames))
 }
 
-/// As long as a frame, with codes and facts in range.
-fn is_frame(bytes: &[u8]) -> bool {
-    bytes.len() == FRAME && bytes.chunks(HALF).all(|part| part[0] <= VALID && part[1] <= 2)
+/// As long as a frame, with all values in the range that they have in line `at` of the frames.
+fn is_frame(at: usize, bytes: &[u8]) -> bool {
+    bytes.len() == FRAME && Pair::read(bytes).is_in_range(at)
 }
 
 /// The bytes of a line of lower-case hex.

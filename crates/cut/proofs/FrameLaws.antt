@@ -10,6 +10,7 @@ use Rattle.slot.specs.declared.slot.Expect.{Expect}
 use Rattle.slot.specs.declared.slot.SlotStatus.{SlotStatus}
 use Rattle.slot.proofs.HeaderLaws.{header_layout}
 use Rattle.judge.specs.Part.{version_of_facts, version_by}
+use Rattle.judge.specs.Operators.{operators_in_range}
 use Rattle.judge.specs.Judge.{most_pairs, verdicts, judgement}
 use Rattle.judge.specs.Frames.{verdict_width, pair_count, row_bytes, judge_frames, frames_left}
 use Rattle.judge.specs.Records.{judge_records, records_left}
@@ -91,7 +92,7 @@ length_reads : (ps : List Pair) → length (reads ps) ≡ length ps
 length_reads [] = refl
 length_reads (p ∷ ps) = simp (length_reads ps)
 
-module _ (ps : List Pair) (some : 1 ≤ length ps) (few : length ps ≤ most_pairs) (clean : Bool) where
+module _ (ps : List Pair) (some : 1 ≤ length ps) (few : length ps ≤ most_pairs) (range : operators_in_range true (shown ps) ≡ true) (clean : Bool) where
   full : (length ps ≡ 0 → ⊥)
   full = omega arith
 
@@ -102,11 +103,12 @@ module _ (ps : List Pair) (some : 1 ≤ length ps) (few : length ps ≤ most_pai
 
   pub row_judged : judge_records (reads ps) clean (length ps) ≡ Ok (judgement (shown ps) clean)
   unfolding judge_records
-  row_judged = simp (length_reads ps, ne_eqb (length ps) 0 full, le-ltb most_pairs (length ps) few, eq-eqb (length ps) (length ps) refl)
+  row_judged = simp (length_reads ps, ne_eqb (length ps) 0 full, le-ltb most_pairs (length ps) few, eq-eqb (length ps) (length ps) refl, range)
 
   pub row_written : (rows : List PairVerdict) → length rows ≡ length ps → records_left (reads ps) clean rows ≡ verdicts (shown ps) clean
   unfolding records_left
-  row_written rows room = simp (length_reads ps, room, ne_eqb (length ps) 0 full, le-ltb most_pairs (length ps) few, eq-eqb (length ps) (length ps) refl)
+  row_written rows room =
+      simp (length_reads ps, room, ne_eqb (length ps) 0 full, le-ltb most_pairs (length ps) few, eq-eqb (length ps) (length ps) refl, range)
 
   module _ (typed : Every PairTyped ps) (out : List ℕ) (room : length out ≡ length ps * verdict_width) where
     nothing_refused : framed_error (reads ps) (mark clean) (length out) ≡ None
@@ -118,6 +120,7 @@ module _ (ps : List Pair) (some : 1 ≤ length ps) (few : length ps ≤ most_pai
           le-ltb most_pairs (length ps) few,
           eq-eqb (length ps * verdict_width) (length ps * verdict_width) refl,
           (mark_back clean).0,
+          range,
         )
 
     pub judged_row : judge_frames (frames ps) (mark clean) (length out) ≡ Ok (judgement (shown ps) clean)

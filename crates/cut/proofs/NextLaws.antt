@@ -139,6 +139,10 @@ module _ (p : Pair) (c : List ℕ) where
   put_decoder SlotIndex.A = refl
   put_decoder SlotIndex.B = refl
 
+  pub put_operator : (o : SlotIndex) → (with_slot o c p).operator ≡ p.operator
+  put_operator SlotIndex.A = refl
+  put_operator SlotIndex.B = refl
+
   sound_put : (s : Slot) → SoundSlot s → AllBytes c → SoundSlot (with_bytes c s)
   sound_put s sound all = record { typed = bytes_typed s c sound.typed all; format = sound.format; numbered = sound.numbered }
 

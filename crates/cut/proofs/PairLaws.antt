@@ -32,7 +32,7 @@ abbrev pub shown_slot : Slot → Shown
 shown_slot s = shown_read (slot_read s)
 
 abbrev pub shown_pair : Pair → ShownPair
-shown_pair p = pair_read (record { a = slot_read p.a; b = slot_read p.b })
+shown_pair p = pair_read (record { a = slot_read p.a; b = slot_read p.b; operator = p.operator })
 
 module _ (p : Pair) where
   -- ---- the pair's case

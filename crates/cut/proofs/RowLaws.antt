@@ -1,14 +1,15 @@
 -- A row of pairs that rest, and such a row with one other pair: what the judge makes of it, and the numbers of its slots.
-use Rattle.std.proofs.Common.{◌≡◌, refl, ap, ap₂, ◌∙◌, Bool, true, false, List, [], ◌∷◌, ◌++◌, ℕ, suc, ◌+◌, ◌*◌, ◌≤◌, arith, length, length-append, Option}
+use Rattle.std.proofs.Common.{◌≡◌, refl, ap, ap₂, ◌∙◌, Bool, true, false, ◌&&◌, List, [], ◌∷◌, ◌++◌, ℕ, suc, ◌+◌, ◌*◌, ◌≤◌, arith, length, length-append, Option}
 use Rattle.slot.specs.Payload.{payload as payload_of}
 use Rattle.slot.specs.declared.slot.SlotIndex.{SlotIndex}
 use Rattle.slot.specs.declared.slot.SlotInfo.{SlotInfo}
 use Rattle.judge.specs.Pairs.{pair_case}
-use Rattle.judge.specs.Numbers.{slots, place, qualifies}
+use Rattle.judge.specs.Numbers.{numbers, place, qualifies}
+use Rattle.judge.specs.Operators.{operator_in_range, operators_in_range}
 use Rattle.judge.specs.Verdict.{winner_beside, pair_verdict, is_in_flight}
 use Rattle.judge.specs.Judge.{verdicts_from, first_verdicts, volume_verdict, mark_counts, pair_heal, verdicts, judgement, most_pairs}
 use Rattle.judge.specs.Frames.{verdict_width, row_bytes}
-use Rattle.judge.specs.declared.pairs.Shown.{Shown}
+use Rattle.judge.specs.declared.pairs.Pair.{Pair as ShownPair}
 use Rattle.judge.specs.declared.verdict.SlotVerdict.{SlotVerdict}
 use Rattle.judge.specs.declared.verdict.PairVerdict.{PairVerdict}
 use Rattle.cut.specs.Store.{Every, Pair, slot_at, shown, last_record, last_records, SoundPair}
@@ -67,25 +68,34 @@ rested_back rested = stands_back (rested_stands rested (λ index number. true))
 
 -- ---- the first pass
 
--- The rule for the slots of the ith pair.
-abbrev pub rule_at : List Shown → ℕ → SlotIndex → Option ℕ → Bool
-rule_at all i index = qualifies all (place i index)
+-- The rule for the slots of the ith pair, by its operator.
+abbrev pub rule_at : ℕ → List ShownPair → ℕ → SlotIndex → Option ℕ → Bool
+rule_at o all i index = qualifies (numbers o all) (place i index)
 
-rested_first : (all : List Shown) (i : ℕ) {ps : List Pair} (rest : Every Rested ps) → verdicts_from all i (shown ps) ≡ rested_verdicts rest
+rested_first : (all : List ShownPair) (i : ℕ) {ps : List Pair} (rest : Every Rested ps) → verdicts_from all i (shown ps) ≡ rested_verdicts rest
 rested_first all i Every.none = refl
-rested_first all i (Every.more rested rest) =
-    ap₂ (λ (v : PairVerdict) (vs : List PairVerdict). v ∷ vs) (rested_stands rested (rule_at all i)).verdict (rested_first all (suc i) rest)
+rested_first all i (Every.more {x = p} rested rest) =
+    ap₂ (λ (v : PairVerdict) (vs : List PairVerdict). v ∷ vs) (rested_stands rested (rule_at p.operator all i)).verdict (rested_first all (suc i) rest)
 
-module _ (all : List Shown) (p : Pair) {behind : List Pair} (rest_behind : Every Rested behind) where
+module _ (all : List ShownPair) (p : Pair) {behind : List Pair} (rest_behind : Every Rested behind) where
   row_first : (i n : ℕ) {before : List Pair} (rest_before : Every Rested before) → n ≡ i + length before
       → verdicts_from all i (shown (before ++ p ∷ behind))
-      ≡ rested_verdicts rest_before ++ pair_verdict (rule_at all n) (pair_case (shown_pair p)) ∷ rested_verdicts rest_behind
+      ≡ rested_verdicts rest_before ++ pair_verdict (rule_at p.operator all n) (pair_case (shown_pair p)) ∷ rested_verdicts rest_behind
   row_first i n Every.none is =
       let here : n ≡ i = omega arith in
       rw (here, rested_first all (suc i) rest_behind)
-  row_first i n (Every.more rested rest) is =
-      ap₂ (λ (v : PairVerdict) (vs : List PairVerdict). v ∷ vs) (rested_stands rested (rule_at all i)).verdict
+  row_first i n (Every.more {x = q} rested rest) is =
+      ap₂ (λ (v : PairVerdict) (vs : List PairVerdict). v ∷ vs) (rested_stands rested (rule_at q.operator all i)).verdict
       (row_first (suc i) n rest (omega arith))
+
+-- ---- the operators
+
+-- With another pair of the same operator in a pair's place they are in range as before.
+pub range_kept : (volume : Bool) (before : List Pair) (p q : Pair) (behind : List Pair) → q.operator ≡ p.operator
+    → operators_in_range volume (shown (before ++ q ∷ behind)) ≡ operators_in_range volume (shown (before ++ p ∷ behind))
+range_kept volume [] p q behind same = ap (λ (o : ℕ). operator_in_range volume o && operators_in_range false (shown behind)) same
+range_kept volume (r ∷ before) p q behind same =
+    ap (λ (rest : Bool). operator_in_range volume r.operator && rest) (range_kept false before p q behind same)
 
 -- ---- judged
 
@@ -101,7 +111,7 @@ row_typed (Every.more rested before) typed rest = Every.more (leads_typed rested
 -- One pair p among those that rest. The clean mark must not count where its write is in flight.
 module _ {before behind : List Pair} (rest_before : Every Rested before) (rest_behind : Every Rested behind) (p : Pair)
     {x : SlotIndex} {i : SlotInfo} {v : SlotVerdict} {r : List ℕ} (explained : Explained v)
-    (stands : Stands p (rule_at (slots (shown (before ++ p ∷ behind))) (length before)) x i v r) (clean : Bool)
+    (stands : Stands p (rule_at p.operator (shown (before ++ p ∷ behind)) (length before)) x i v r) (clean : Bool)
     (unmarked : is_in_flight v ≡ true
     → mark_counts clean (volume_verdict (rested_verdicts rest_before ++ winner_beside x v ∷ rested_verdicts rest_behind)) ≡ false) where
   abbrev row : List Pair
@@ -113,7 +123,7 @@ module _ {before behind : List Pair} (rest_before : Every Rested before) (rest_b
   first : first_verdicts (shown row) ≡ vs
   unfolding first_verdicts
   first =
-      row_first (slots (shown row)) p rest_behind 0 (length before) rest_before (omega arith)
+      row_first (shown row) p rest_behind 0 (length before) rest_before (omega arith)
       ∙ ap (λ (w : PairVerdict). rested_verdicts rest_before ++ w ∷ rested_verdicts rest_behind) stands.verdict
 
   verdicts_are : verdicts (shown row) clean ≡ vs
@@ -127,16 +137,16 @@ module _ {before behind : List Pair} (rest_before : Every Rested before) (rest_b
   some : 1 ≤ length row
   some = let all = length-append before (p ∷ behind) in omega arith
 
-  pub row_stands : PairTyped p → length (before ++ p ∷ behind) ≤ most_pairs → (out : List ℕ) → length out ≡ length (before ++ p ∷ behind) * verdict_width
+  pub row_stands : PairTyped p → operators_in_range true (shown (before ++ p ∷ behind)) ≡ true → length (before ++ p ∷ behind) ≤ most_pairs → (out : List ℕ) → length out ≡ length (before ++ p ∷ behind) * verdict_width
       → Confirmed (before ++ p ∷ behind) clean out (rested_verdicts rest_before ++ winner_beside x v ∷ rested_verdicts rest_behind)
       (judgement (shown (before ++ p ∷ behind)) clean)
-  row_stands typed few out room =
+  row_stands typed range few out room =
       let all = row_typed rest_before typed rest_behind in
       record {
-        answer = judged_row row some few clean all out room;
-        written = judged_bytes row some few clean all out room ∙ ap row_bytes verdicts_are;
-        row_answer = row_judged row some few clean;
-        row_written = λ rows rows_room. row_written row some few clean rows rows_room ∙ verdicts_are;
+        answer = judged_row row some few range clean all out room;
+        written = judged_bytes row some few range clean all out room ∙ ap row_bytes verdicts_are;
+        row_answer = row_judged row some few range clean;
+        row_written = λ rows rows_room. row_written row some few range clean rows rows_room ∙ verdicts_are;
         confirmed =
             row_confirmed (winner_beside x v) (rested_verdicts rest_behind) (rested_settled rest_behind) (explained_standing explained)
             (rested_settled rest_before);

@@ -1,5 +1,5 @@
 -- The laws of specs/Laws.antt on the marks, the cut in ascending order, the frames and the read-back.
-use Rattle.std.proofs.Common.{◌≡◌, refl, sym, ap, ap₂, subst, ◌∙◌, Bool, true, false, cond, ◌==◌, List, ◌++◌, append_assoc, ℕ, ◌+◌, length, take, drop, Bor, Option, Some, None, Result, Ok, Err, get_or, get_or-take, get_or-drop, lit<, add-zero}
+use Rattle.std.proofs.Common.{◌≡◌, refl, sym, ap, ap₂, subst, ◌∙◌, Bool, true, false, cond, ◌==◌, List, [], ◌∷◌, ◌++◌, append_assoc, ℕ, ◌+◌, length, map, take, drop, Bor, Option, Some, None, Result, Ok, Err, get_or, get_or-take, get_or-drop, lit<, add-zero}
 use Rattle.std.specs.Int.{w8}
 use Rattle.codec.specs.Bytes.{le}
 use Rattle.codec.specs.Place.{Part}
@@ -23,12 +23,41 @@ use Rattle.meta.specs.Volume.{decode_volume}
 use Rattle.meta.specs.declared.meta.MetaError.{MetaError}
 use Rattle.meta.specs.declared.meta2.VolumeMeta2.{VolumeMeta2}
 use Rattle.meta.proofs.VolumeLaws.{volume_decoded}
-use Rattle.cut.specs.Store.{mark_by, clean_mark, Slot, Pair, slot_at, status, report, frames, SoundPair}
+use Rattle.cut.specs.Store.{Every, mark_by, clean_mark, Slot, Pair, slot_at, status, report, frames, Beside, SoundPair, IsPage, Sound}
 use Rattle.cut.specs.Cut.{Tear, Ascending, Write, store, size, old, new, cut, torn, left, next_number, CutPoint, CorrectWrite, Accident, payload_by, SectorAccident, is_empty, handed, PayloadIs}
-use Rattle.cut.specs.Laws.{UnmarkedRecord, UnmarkedStore, PageHanded, TornHanded, WholeHanded, OldHeaderKept, NoneInOrder, zeros, PairFrame, OnePayload, HasSlots}
+use Rattle.cut.specs.Laws.{of_operator, SoundUnderAny, UnmarkedRecord, UnmarkedStore, PageHanded, TornHanded, WholeHanded, OldHeaderKept, NoneInOrder, zeros, PairFrame, OnePayload, HasSlots}
 use Rattle.cut.proofs.PairLaws.{last_is}
 use Rattle.cut.proofs.CutLaws.{kept_by_header}
 use Rattle.cut.proofs.WriteLaws.{BesideWinner, sound_beside, sound_resting, old_size, new_size, header_differs}
+
+-- ---- the operators
+
+beside_under : {p : Pair} {newer : SlotIndex} {i : SlotInfo} → Beside (of_operator 0 p) newer i → Beside p newer i
+beside_under (Beside.first is_a first blank) = Beside.first is_a first blank
+beside_under (Beside.both j valid generation number prev accepted) = Beside.both j valid generation number prev accepted
+
+pair_under : {p : Pair} → SoundPair (of_operator 0 p) → SoundPair p
+pair_under sound =
+    record {
+      slots = sound.slots;
+      newer = sound.newer;
+      info = sound.info;
+      valid = sound.valid;
+      accepted = sound.accepted;
+      beside = beside_under sound.beside;
+    }
+
+pairs_under : (ps : List Pair) → Every SoundPair (map (of_operator 0) ps) → Every SoundPair ps
+pairs_under [] Every.none = Every.none
+pairs_under (p ∷ ps) (Every.more sound rest) = Every.more (pair_under sound) (pairs_under ps rest)
+
+pages_under : (ps : List Pair) → Every IsPage (map (of_operator 0) ps) → Every IsPage ps
+pages_under [] Every.none = Every.none
+pages_under (p ∷ ps) (Every.more page rest) = Every.more (record { index = page.index; most = page.most; decoder = page.decoder }) (pages_under ps rest)
+
+pub sound_under_any : SoundUnderAny
+sound_under_any [] none range = elim none [ ]
+sound_under_any (p ∷ ps) (Sound.row volume pages known all) range = Sound.row volume (pages_under ps pages) range (pairs_under (p ∷ ps) all)
 
 -- ---- the store's mark
 
@@ -114,8 +143,11 @@ slot_zeros s is =
 
 pub pair_frame : PairFrame
 pair_frame p ps a_zeros b_zeros =
-    ap₂ (λ (a b : SlotPart). (part_bytes a ++ part_bytes b) ++ frames ps) (slot_zeros p.a a_zeros) (slot_zeros p.b b_zeros)
-    ∙ append_assoc (part_bytes (part_of (status p.a) (header_facts p.a.bytes p.a.expect))) _ (frames ps)
+    let a : List ℕ = part_bytes (part_of (status p.a) (header_facts p.a.bytes p.a.expect)) in
+    let b : List ℕ = part_bytes (part_of (status p.b) (header_facts p.b.bytes p.b.expect)) in
+    ap₂ (λ (x y : SlotPart). (part_bytes x ++ (part_bytes y ++ p.operator ∷ [])) ++ frames ps) (slot_zeros p.a a_zeros) (slot_zeros p.b b_zeros)
+    ∙ append_assoc a (b ++ p.operator ∷ []) (frames ps)
+    ∙ ap (λ (t : List ℕ). a ++ t) (append_assoc b (p.operator ∷ []) (frames ps))
 
 -- ---- the read-back
 

@@ -1,13 +1,14 @@
 -- The cut theorem: every pair but the written one is as it was and rests, the written one's winner stands beside a slot that a crash
 -- explains, and so the judge's second pass changes nothing.
-use Rattle.std.proofs.Common.{◌≡◌, refl, sym, ap, subst, ◌∙◌, ◌⊎◌, inl, inr, Bool, true, false, ◌&&◌, cond, List, [], ◌∷◌, ◌++◌, ℕ, ◌*◌, ◌≤◌, ◌<◌, arith, length, take, Option, Some, None}
+use Rattle.std.proofs.Common.{◌≡◌, refl, sym, ap, subst, ◌∙◌, ◌⊎◌, inl, inr, Bool, true, false, ◌&&◌, cond, List, [], ◌∷◌, ◌++◌, ℕ, ◌+◌, ◌*◌, ◌≤◌, ◌<◌, arith, length, take, Option, Some, None}
 use mathlib.Core.Bool.{and-false}
 use Rattle.slot.specs.Status.{other}
 use Rattle.slot.specs.Payload.{payload as payload_of}
 use Rattle.slot.specs.declared.slot.SlotIndex.{SlotIndex}
 use Rattle.slot.specs.declared.slot.SlotInfo.{SlotInfo}
 use Rattle.judge.specs.Pairs.{numbered}
-use Rattle.judge.specs.Numbers.{number, slots}
+use Rattle.judge.specs.Numbers.{number, numbers, highest}
+use Rattle.judge.specs.Operators.{operators_in_range}
 use Rattle.judge.specs.Verdict.{winner_beside, is_in_flight}
 use Rattle.judge.specs.Judge.{volume_verdict, mark_counts, judgement, most_pairs}
 use Rattle.judge.specs.Frames.{verdict_width}
@@ -24,10 +25,10 @@ use Rattle.cut.proofs.PairLaws.{other_other, shown_slot, number_at, Stands}
 use Rattle.cut.proofs.NumberLaws.{in_highest, write_qualifies}
 use Rattle.cut.proofs.CutLaws.{none_of_either}
 use Rattle.cut.proofs.StateLaws.{Leads, Resting, rests, winner_number, resting_number, flies}
-use Rattle.cut.proofs.NextLaws.{Read, Next, kept_slot}
+use Rattle.cut.proofs.NextLaws.{put_operator, Read, Next, kept_slot}
 use Rattle.cut.proofs.WriteLaws.{BesideWinner, sound_beside, sound_resting, last_before, old_is}
 use Rattle.cut.proofs.LeftLaws.{left_resting}
-use Rattle.cut.proofs.RowLaws.{Rested, rested_verdicts, leads_typed, stands_back, rule_at, heal_is, row_stands, all_rested, row_back}
+use Rattle.cut.proofs.RowLaws.{range_kept, Rested, rested_verdicts, leads_typed, stands_back, rule_at, heal_is, row_stands, all_rested, row_back}
 
 -- ---- the mark that is handed over counts for nothing where a write is in flight
 
@@ -47,7 +48,10 @@ row_unmarked (Every.more rested rest) mark index vs explained flight = refl
 -- ---- the pairs of the store
 
 pub sound_pairs : {ps : List Pair} → Sound ps → Every SoundPair ps
-sound_pairs (Sound.row volume pages all) = all
+sound_pairs (Sound.row volume pages range all) = all
+
+pub sound_range : {ps : List Pair} → Sound ps → operators_in_range true (shown ps) ≡ true
+sound_range (Sound.row volume pages range all) = range
 
 -- ---- the written pair
 
@@ -117,12 +121,12 @@ module _ (p : Pair) (index : SlotIndex) (i : SlotInfo) (n : ℕ) (whole : Bool) 
 
 module _ (w : Write) (sound_before : Every SoundPair w.before) (sound : SoundPair w.pair) (sound_behind : Every SoundPair w.behind)
     (correct : CorrectWrite w) (possible : Possible w.tear (size w)) (none : Accident (left w) (old w) (new w) w.payload → ⊥)
-    (few : length (store w) ≤ most_pairs) (out : List ℕ) (room : length out ≡ length (store w) * verdict_width) where
+    (few : length (store w) ≤ most_pairs) (range : operators_in_range true (shown (store w)) ≡ true) (out : List ℕ) (room : length out ≡ length (store w) * verdict_width) where
   abbrev p : Pair
   p = with_slot w.index (left w) w.pair
 
   abbrev rule : SlotIndex → Option ℕ → Bool
-  rule = rule_at (slots (shown (after w))) (length w.before)
+  rule = rule_at p.operator (shown (after w)) (length w.before)
 
   abbrev i : SlotInfo
   i = correct.winner
@@ -138,15 +142,19 @@ module _ (w : Write) (sound_before : Every SoundPair w.before) (sound : SoundPai
       subst (λ (index : SlotIndex). number_at index w.pair ≤ number_at (other w.index) w.pair) (other_other w.index)
       (resting_number w.pair (other w.index) i made.leads resting)
 
+  same_operator : w.pair.operator ≡ p.operator
+  same_operator = sym (put_operator w.pair (left w) w.index)
+
   qualified : rule w.index (Some (next_number (store w) w.pair)) ≡ true
   qualified =
       let kept : number_at (other w.index) p ≡ number_at (other w.index) w.pair =
       ap (λ (s : Slot). number (numbered (shown_slot s))) (kept_slot w.pair (left w) w.index) in
-      write_qualifies w.before w.pair p w.behind w.index kept not_higher (next_number (store w) w.pair) refl
+      write_qualifies p.operator w.before w.pair p w.behind w.index same_operator refl kept not_higher (next_number (store w) w.pair)
+      (ap (λ (o : ℕ). highest (numbers o (shown (store w))) + 1) same_operator)
 
   below : i.meta_seq < next_number (store w) w.pair
   below =
-      let among = in_highest w.before w.pair w.behind (other w.index) in
+      let among = in_highest w.pair.operator w.before w.pair w.behind refl (other w.index) in
       let own = winner_number w.pair (other w.index) i made.leads in
       omega arith
 
@@ -187,6 +195,7 @@ module _ (w : Write) (sound_before : Every SoundPair w.before) (sound : SoundPai
         verdict = rested_verdicts rest_before ++ winner_beside answer.winner answer.verdict ∷ rested_verdicts rest_behind;
         judgement = judgement (shown (after w)) (handed w);
         judged = row_stands rest_before rest_behind p answer.explained answer.stands (handed w) unmarked answer.typed
+            (range_kept true w.before w.pair p w.behind (sym same_operator) ∙ range)
             (subst (λ (n : ℕ). n ≤ most_pairs) as_many few) out (room ∙ ap (λ (n : ℕ). n * verdict_width) as_many);
         heal =
             healed_is (judgement (shown (after w)) (handed w)).heal
@@ -199,7 +208,7 @@ module _ (w : Write) (sound_before : Every SoundPair w.before) (sound : SoundPai
 pub older_survived : OlderSurvived
 older_survived w sound few no_mark correct possible none out room =
     let all = every_split w.before w.pair w.behind (sound_pairs sound) in
-    survives w all.0 all.1 all.2 correct possible none few out room
+    survives w all.0 all.1 all.2 correct possible none few (sound_range sound) out room
 
 -- Nor does what sectors add to the accidents.
 pub cut_theorem : CutTheorem

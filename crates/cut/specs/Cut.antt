@@ -21,7 +21,7 @@ use Rattle.slot.specs.declared.slot.SlotFields.{SlotFields}
 use Rattle.slot.specs.declared.slot.Expect.{Expect}
 use Rattle.pair.specs.Pair.{winner_info}
 use Rattle.pair.specs.Winner.{WinnerPart}
-use Rattle.judge.specs.Numbers.{slots, highest}
+use Rattle.judge.specs.Numbers.{numbers, highest}
 use Rattle.judge.specs.Judge.{most_pairs}
 use Rattle.judge.specs.Frames.{verdict_width, row_bytes, judge_frames, frames_left}
 use Rattle.judge.specs.Records.{judge_records, records_left}
@@ -93,8 +93,8 @@ abbrev pub with_bytes : List ℕ → Slot → Slot
 with_bytes bytes s = record { bytes = bytes; expect = s.expect; rest = s.rest }
 
 abbrev pub with_slot : SlotIndex → List ℕ → Pair → Pair
-with_slot SlotIndex.A bytes p = record { a = with_bytes bytes p.a; b = p.b; decoder = p.decoder }
-with_slot SlotIndex.B bytes p = record { a = p.a; b = with_bytes bytes p.b; decoder = p.decoder }
+with_slot SlotIndex.A bytes p = record p { a = with_bytes bytes p.a }
+with_slot SlotIndex.B bytes p = record p { b = with_bytes bytes p.b }
 
 -- The store after the cut: every other slot is as it was.
 abbrev pub after : Write → List Pair
@@ -109,9 +109,9 @@ abbrev pub Possible : Tear → ℕ → Type 0
 Possible (Ascending k) size = CutPoint k size
 Possible (Sectors reached) size = Unit {0}
 
--- The number of a write to a pair of the store: one above the highest of all numbered slots.
+-- The number of a write to a pair of the store: one above the highest of all numbered slots of its operator.
 abbrev pub next_number : List Pair → Pair → ℕ
-next_number ps p = highest (slots (shown ps)) + 1
+next_number ps p = highest (numbers p.operator (shown ps)) + 1
 
 -- Correct write with a number n: for the slot that is not the winner, in format 2 with the identity and size that slot is read with,
 -- generation one up, previous checksum the winner's, generation and number below 2^64, acceptable payload that fits the slot. The
@@ -137,7 +137,7 @@ pub record CorrectWith (n : ℕ) (w : Write) : Type 0 where
   pub fits : 128 + length w.payload ≤ size w
   pub room : length w.buffer ≡ size w
 
--- Correct write: its number is one above the store's highest.
+-- Correct write: its number is one above its operator's highest.
 abbrev pub CorrectWrite : Write → Type 0
 CorrectWrite w = CorrectWith (next_number (store w) w.pair) w
 

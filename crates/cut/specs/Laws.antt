@@ -1,12 +1,13 @@
 -- Laws on the words of the cut theorem (docs/FORMAT.md, "The sound store and the cut"). It would also hold of a store that always has the
 -- mark, of a decoder that accepts anything or of a frame that holds less; these laws would not. Each is the contract of a function.
-use Rattle.std.specs.Prelude.{◌≡◌, Bool, true, false, if◌then◌else◌, List, [], ◌∷◌, ◌++◌, ℕ, ◌*◌, ◌≤◌, length, get_or, take, drop, Ok, Err}
+use Rattle.std.specs.Prelude.{◌≡◌, Bool, true, false, if◌then◌else◌, List, [], ◌∷◌, ◌++◌, ℕ, ◌*◌, ◌≤◌, length, map, get_or, take, drop, Ok, Err}
 use Rattle.codec.specs.Bytes.{le16, le32}
 use Rattle.codec.specs.Crc32c.{crc32c}
 use Rattle.slot.specs.Payload.{payload}
 use Rattle.slot.specs.Read.{header_facts, header_sum}
 use Rattle.slot.specs.Write.{encode, header_crc}
 use Rattle.slot.specs.declared.slot.Expect.{Expect}
+use Rattle.judge.specs.Operators.{operators_in_range}
 use Rattle.judge.specs.Judge.{most_pairs}
 use Rattle.judge.specs.Frames.{verdict_width}
 use Rattle.judge.specs.Part.{part_of, part_bytes}
@@ -14,7 +15,7 @@ use Rattle.judge.specs.declared.pairs.Version.{Version}
 use Rattle.meta.specs.Volume.{decode_volume}
 use Rattle.meta.specs.Page.{decode_page}
 use Rattle.meta.specs.declared.meta.MetaError.{MetaError}
-use Rattle.cut.specs.Store.{Volume, Page, accepts, clean_mark, Pair, slot_at, status, frames, store_mark, SoundPair, Sound}
+use Rattle.cut.specs.Store.{Volume, Page, accepts, clean_mark, Pair, slot_at, status, shown, frames, store_mark, SoundPair, Sound}
 use Rattle.cut.specs.Cut.{Ascending, Sectors, Write, store, size, old, new, torn, left, CutPoint, Possible, CorrectWrite, whole, header_passes, payload_in, Accident, payload_by, SectorAccident, handed, PayloadIs, Survives}
 
 -- ---- the decoders
@@ -26,6 +27,15 @@ VolumeRefused = (r : List ℕ) (error : MetaError) → decode_volume r ≡ Err e
 -- and neither is a page.
 abbrev pub PageRefused : Type 0
 PageRefused = (index most : ℕ) (r : List ℕ) (error : MetaError) → decode_page r index most ≡ Err error → accepts (Page index most) r ≡ false
+
+-- ---- the operators
+
+abbrev pub of_operator : ℕ → Pair → Pair
+of_operator o p = record p { operator = o }
+
+-- A store that is sound with all its pairs operator 0's, as stores with one count for all are, is sound under any operators in range.
+abbrev pub SoundUnderAny : Type 0
+SoundUnderAny = (ps : List Pair) → Sound (map (of_operator 0) ps) → operators_in_range true (shown ps) ≡ true → Sound ps
 
 -- ---- the write
 
@@ -119,13 +129,13 @@ NoneInOrder =
 abbrev pub zeros : Version
 zeros = record { generation = 0; meta_seq = 0; header_crc32c = 0; prev_header_crc32c = 0; owner_generation = 0 }
 
--- Then a pair's frame is the bytes of the parts that `SlotPart::new` gives, A's and then B's.
+-- Then a pair's frame is the bytes of the parts that `SlotPart::new` gives, A's and then B's, and the pair's operator.
 abbrev pub PairFrame : Type 0
 PairFrame =
     (p : Pair) (ps : List Pair) → p.a.rest ≡ zeros → p.b.rest ≡ zeros
     → frames (p ∷ ps)
     ≡ part_bytes (part_of (status p.a) (header_facts p.a.bytes p.a.expect))
-    ++ (part_bytes (part_of (status p.b) (header_facts p.b.bytes p.b.expect)) ++ frames ps)
+    ++ (part_bytes (part_of (status p.b) (header_facts p.b.bytes p.b.expect)) ++ p.operator ∷ frames ps)
 
 -- ---- the read-back
 

@@ -11,6 +11,7 @@ use Rattle.slot.specs.declared.slot.Expect.{Expect}
 use Rattle.pair.specs.Winner.{read_pair}
 use Rattle.pair.specs.declared.pair.PairReport.{PairReport}
 use Rattle.judge.specs.Verdict.{by_index}
+use Rattle.judge.specs.Operators.{operators_in_range}
 use Rattle.judge.specs.Same.{Framed, VersionFits, frames_of, pairs_of}
 use Rattle.judge.specs.Records.{pair_read}
 use Rattle.judge.specs.declared.pairs.Version.{Version}
@@ -58,6 +59,8 @@ pub record Pair : Type 0 where
   pub a : Slot
   pub b : Slot
   pub decoder : Decoder
+  -- Whose records it holds.
+  pub operator : ℕ
 
 abbrev pub slot_at : SlotIndex → Pair → Slot
 slot_at index p = by_index index p.a p.b
@@ -77,7 +80,8 @@ slot_read s = record { status = status s; facts = header_facts s.bytes s.expect 
 
 -- A pair as it is read, with what is left in the other fields of its frame; and the row of them.
 abbrev pub framed_pair : Pair → Framed
-framed_pair p = record { pair = record { a = slot_read p.a; b = slot_read p.b }; rest_a = p.a.rest; rest_b = p.b.rest }
+framed_pair p =
+    record { pair = record { a = slot_read p.a; b = slot_read p.b; operator = p.operator }; rest_a = p.a.rest; rest_b = p.b.rest }
 
 abbrev pub framed : List Pair → List Framed
 framed ps = map framed_pair ps
@@ -158,6 +162,7 @@ pub record IsPage (p : Pair) : Type 0 where
   pub most : ℕ
   pub decoder : p.decoder ≡ Page index most
 
--- At least one pair; pair 0 is the volume record, the others are pages.
+-- At least one pair; pair 0 is the volume record, the others are pages. Their operators are in range, that of pair 0 is 0.
 pub data Sound : List Pair → Type 0 where
-  row : {p : Pair} {ps : List Pair} → p.decoder ≡ Volume → Every IsPage ps → Every SoundPair (p ∷ ps) → Sound (p ∷ ps)
+  row : {p : Pair} {ps : List Pair} → p.decoder ≡ Volume → Every IsPage ps → operators_in_range true (shown (p ∷ ps)) ≡ true → Every SoundPair (p ∷ ps)
+      → Sound (p ∷ ps)

@@ -7,7 +7,7 @@ ghost use Rattle.pair.specs.Winner.{read_pair};
 ghost use Rattle.judge.specs.Same.{NothingGiven, ChecksumGiven, NumbersGiven};
 ghost use Rattle.cut.specs.Store.{Pair};
 ghost use Rattle.cut.specs.Cut.{CutTheorem, PayloadIs};
-ghost use Rattle.cut.specs.Laws.{VolumeRefused, PageRefused, Encoded, EachSector, AnySectors, UnmarkedRecord, UnmarkedStore, PageHanded, TornHanded, WholeHanded, FailedSum, FailedPayload, OlderAtMost, OlderSurvived, OldHeaderKept, NoneInOrder, PairFrame, OnePayload, HasSlots};
+ghost use Rattle.cut.specs.Laws.{VolumeRefused, PageRefused, SoundUnderAny, Encoded, EachSector, AnySectors, UnmarkedRecord, UnmarkedStore, PageHanded, TornHanded, WholeHanded, FailedSum, FailedPayload, OlderAtMost, OlderSurvived, OldHeaderKept, NoneInOrder, PairFrame, OnePayload, HasSlots};
 
 use pair::pair::PairReport;
 use slot::slot::Expect;
@@ -20,6 +20,12 @@ pub fn cut_theorem()
 pub fn refused_records()
     ensures volume { VolumeRefused }
     ensures page { PageRefused }
+{}
+
+// A store whose numbers were counted for all its pairs together needs no change.
+#[tactic(auto, using(crate::proofs::StatementLaws::sound_under_any))]
+pub fn counted_before()
+    ensures { SoundUnderAny }
 {}
 
 // A correct write is one that `encode` writes.

@@ -72,31 +72,31 @@ unfolding cut header_bytes page_header_bytes
 page_ends = (slots_read.2, slots_read.6)
 
 -- The pairs of them, with their records.
-pub volume_pair_read : PairRecord volume_pair (record { a = volume_read; b = blank_read }) (volume_record false)
+pub volume_pair_read : PairRecord volume_pair (record { a = volume_read; b = blank_read; operator = 0 }) (volume_record false)
 unfolding payload_of header_bytes volume_bytes decide
 volume_pair_read =
     rw volume_slot_is
-    (pair_record volume_slot blank_bytes volume_pair.a.expect volume_pair.b.expect Volume (record { a = volume_read; b = blank_read })
+    (pair_record volume_slot blank_bytes volume_pair.a.expect volume_pair.b.expect Volume (record { a = volume_read; b = blank_read; operator = 0 })
     (volume_record false) slots_read.0 slots_read.1 refl refl volume_accepted.0)
 
 -- The first page with the bytes s in its slot A, which are read as x.
 pub first_with : (s : List ℕ) (x : SlotRead) → read_once s first_page.a.expect ≡ x
     → {index : SlotIndex} {i : SlotInfo} → winner_info (decide x.status newer_read.status) ≡ Some (index, i)
     → {r : List ℕ} → payload_of i (by_index index s newer_slot) ≡ r → accepts (Page 0 41) r ≡ true
-    → PairRecord (with_slot SlotIndex.A s first_page) (record { a = x; b = newer_read }) r
+    → PairRecord (with_slot SlotIndex.A s first_page) (record { a = x; b = newer_read; operator = 0 }) r
 first_with s x read won {r} back accepted =
     rw newer_slot_is
-    (pair_record s newer_slot first_page.a.expect first_page.b.expect (Page 0 41) (record { a = x; b = newer_read }) r read slots_read.3 won back accepted)
+    (pair_record s newer_slot first_page.a.expect first_page.b.expect (Page 0 41) (record { a = x; b = newer_read; operator = 0 }) r read slots_read.3 won back accepted)
 
-pub first_page_read : PairRecord first_page (record { a = older_read; b = newer_read }) (page_record 0 2)
+pub first_page_read : PairRecord first_page (record { a = older_read; b = newer_read; operator = 0 }) (page_record 0 2)
 unfolding payload_of header_bytes page_header_bytes decide
 first_page_read = rw old_page_is (first_with old_page older_read slots_read.2 refl refl page_accepted.1)
 
-pub second_page_read : PairRecord second_page (record { a = second_read; b = blank_read }) (page_record 1 0)
+pub second_page_read : PairRecord second_page (record { a = second_read; b = blank_read; operator = 1 }) (page_record 1 0)
 unfolding payload_of header_bytes page_header_bytes decide
 second_page_read =
     rw second_slot_is
-    (pair_record second_slot blank_bytes second_page.a.expect second_page.b.expect (Page 1 41) (record { a = second_read; b = blank_read })
+    (pair_record second_slot blank_bytes second_page.a.expect second_page.b.expect (Page 1 41) (record { a = second_read; b = blank_read; operator = 1 })
     (page_record 1 0) slots_read.4 slots_read.5 refl refl page_accepted.4)
 
 -- ---- the written pairs
@@ -108,7 +108,7 @@ pub record Written (w : Write) (slot : SlotRead) (x : PairRead) (r : List ℕ) :
 
 -- Where pair 1 of three is written, the frames that are filled,
 abbrev pub row_with : PairRead → List ℕ
-row_with x = frames_of (framed_row (record { a = volume_read; b = blank_read } ∷ x ∷ record { a = second_read; b = blank_read } ∷ []))
+row_with x = frames_of (framed_row (record { a = volume_read; b = blank_read; operator = 0 } ∷ x ∷ record { a = second_read; b = blank_read; operator = 1 } ∷ []))
 
 -- and what is judged of them and read back, where the judge is handed false;
 pub judged_with : {p : Pair} (s : Slot) {slot : SlotRead} {x : PairRead} {r : List ℕ} → slot_read s ≡ slot → PairRecord p x r
@@ -133,7 +133,7 @@ page_at {p} {f} {payload} {tear} written =
 page_read : (k : ℕ) (x : SlotRead) → read_once (cut k new_page old_page) first_page.a.expect ≡ x
     → {index : SlotIndex} {i : SlotInfo} → winner_info (decide x.status newer_read.status) ≡ Some (index, i)
     → {r : List ℕ} → payload_of i (by_index index (cut k new_page old_page) newer_slot) ≡ r → accepts (Page 0 41) r ≡ true
-    → Written (page_write k) x (record { a = x; b = newer_read }) r
+    → Written (page_write k) x (record { a = x; b = newer_read; operator = 0 }) r
 page_read k x read won {r} back accepted =
     record {
       slot_is = rw (new_page_is, old_page_is) (read_once_is (cut k new_page old_page) first_page.a.expect ∙ read);
@@ -149,17 +149,17 @@ module _ (k : ℕ) (x : SlotRead) (read : read_once (cut k marked_bytes blank_by
   marked_slot_read : slot_read (with_bytes (left (volume_write k)) volume_pair.b) ≡ x
   marked_slot_read = rw marked_bytes_is (read_once_is (cut k marked_bytes blank_bytes) volume_pair.b.expect ∙ read)
 
-  marked_pair_read : PairRecord (with_slot SlotIndex.B (left (volume_write k)) volume_pair) (record { a = volume_read; b = x }) r
+  marked_pair_read : PairRecord (with_slot SlotIndex.B (left (volume_write k)) volume_pair) (record { a = volume_read; b = x; operator = 0 }) r
   marked_pair_read =
       rw (marked_bytes_is, volume_slot_is)
-      (pair_record volume_slot (cut k marked_bytes blank_bytes) volume_pair.a.expect volume_pair.b.expect Volume (record { a = volume_read; b = x }) r
+      (pair_record volume_slot (cut k marked_bytes blank_bytes) volume_pair.a.expect volume_pair.b.expect Volume (record { a = volume_read; b = x; operator = 0 }) r
       slots_read.0 read won back accepted)
 
   abbrev volume_row : List ℕ
   volume_row =
       frames_of
       (framed_row
-      (record { a = volume_read; b = x } ∷ record { a = older_read; b = newer_read } ∷ record { a = second_read; b = blank_read } ∷ []))
+      (record { a = volume_read; b = x; operator = 0 } ∷ record { a = older_read; b = newer_read; operator = 0 } ∷ record { a = second_read; b = blank_read; operator = 1 } ∷ []))
 
   volume_at : {heal : Option (ℕ × SlotIndex)} {clean : Bool} {verdict : List ℕ}
       → judge_frames volume_row (mark shut) 12 ≡ Ok (writable_store heal clean)
@@ -170,30 +170,30 @@ module _ (k : ℕ) (x : SlotRead) (read : read_once (cut k marked_bytes blank_by
 
 -- The second page's slot B after 140 bytes.
 abbrev torn_second : SlotRead
-torn_second = torn_payload 2 5 0x24b0_a7e6 0x2c8c_2a3c
+torn_second = torn_payload 2 4 0x1916_772d 0x2c8c_2a3c
 
 torn_second_read : read_once (cut 140 next_page blank_bytes) second_page.b.expect ≡ torn_second
 unfolding cut is_slot_length check passes_checksum is_malformed passes_payload payload_of header_sum header_bytes page_header_bytes le crc32c final_remainder remainder digest reversed
 torn_second_read = refl
 
-torn_pair_read : PairRecord (with_slot SlotIndex.B (left (second_write 140)) second_page) (record { a = second_read; b = torn_second }) (page_record 1 0)
+torn_pair_read : PairRecord (with_slot SlotIndex.B (left (second_write 140)) second_page) (record { a = second_read; b = torn_second; operator = 1 }) (page_record 1 0)
 unfolding payload_of header_bytes page_header_bytes decide
 torn_pair_read =
     rw (next_page_is, second_slot_is)
     (pair_record second_slot (cut 140 next_page blank_bytes) second_page.a.expect second_page.b.expect (Page 1 41)
-    (record { a = second_read; b = torn_second }) (page_record 1 0) slots_read.4 torn_second_read refl refl page_accepted.4)
+    (record { a = second_read; b = torn_second; operator = 1 }) (page_record 1 0) slots_read.4 torn_second_read refl refl page_accepted.4)
 
 -- The first page's slot B after k bytes is read as x, and A of generation 3 is the winner.
 later_read : (k : ℕ) (x : SlotRead) → read_once (cut k later_slot newer_slot) later_page.b.expect ≡ x
     → {i : SlotInfo} → winner_info (decide new_read.status x.status) ≡ Some (SlotIndex.A, i)
     → payload_of i new_page ≡ page_record 0 0x304
-    → Written (later_write k) x (record { a = new_read; b = x }) (page_record 0 0x304)
+    → Written (later_write k) x (record { a = new_read; b = x; operator = 0 }) (page_record 0 0x304)
 later_read k x read won back =
     record {
       slot_is = rw (newer_slot_is, later_slot_is) (read_once_is (cut k later_slot newer_slot) later_page.b.expect ∙ read);
       pair_is =
           rw (new_page_is, newer_slot_is, later_slot_is)
-          (pair_record new_page (cut k later_slot newer_slot) later_page.a.expect later_page.b.expect (Page 0 41) (record { a = new_read; b = x })
+          (pair_record new_page (cut k later_slot newer_slot) later_page.a.expect later_page.b.expect (Page 0 41) (record { a = new_read; b = x; operator = 0 })
           (page_record 0 0x304) slots_read.6 read won back page_accepted.2);
     }
 

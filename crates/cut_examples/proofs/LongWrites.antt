@@ -104,7 +104,7 @@ unfolding both_written
 long_sound = both_written older_known newer_known refl (lit< tt) (sym header_sums.0)
 
 pub long_store_sound : Sound long_store
-long_store_sound = sound_with long_page refl long_sound
+long_store_sound = sound_with long_page refl refl long_sound
 
 pub stores_sound : StoresSound
 stores_sound = (sound, later_store_sound, long_store_sound)
@@ -118,7 +118,7 @@ unfolding long_sound both_written
 long_correct reached =
     write_correct (volume_pair ∷ []) long_page (second_page ∷ []) long_fields new_fits refl refl
     (one_above
-    (highest_with long_page (info_of long_older_fields older_record) (info_of long_newer_fields newer_record) older_known.valid newer_known.valid))
+    (highest_with long_page (info_of long_older_fields older_record) (info_of long_newer_fields newer_record) refl older_known.valid newer_known.valid))
     (info_of long_newer_fields newer_record) (sound_won long_page long_sound) refl (sym header_sums.1) new_record record_bytes.2 accepted.2
     record_fits (Sectors reached)
 
@@ -154,16 +154,16 @@ newer_is = refl
 pub long_with : (s : List ℕ) (x : SlotRead) → read_once s long_page.a.expect ≡ x
     → {index : SlotIndex} {i : SlotInfo} → winner_info (decide x.status newer_read.status) ≡ Some (index, i)
     → {r : List ℕ} → payload_of i (by_index index s newer_slot) ≡ r → accepts (Page 0 41) r ≡ true
-    → PairRecord (with_slot SlotIndex.A s long_page) (record { a = x; b = newer_read }) r
+    → PairRecord (with_slot SlotIndex.A s long_page) (record { a = x; b = newer_read; operator = 0 }) r
 long_with s x read won {r} back takes =
     rw newer_slot_is
-    (pair_record s newer_slot long_page.a.expect long_page.b.expect (Page 0 41) (record { a = x; b = newer_read }) r read newer_is won back takes)
+    (pair_record s newer_slot long_page.a.expect long_page.b.expect (Page 0 41) (record { a = x; b = newer_read; operator = 0 }) r read newer_is won back takes)
 
 -- With these sectors new.
 long_read : (reached : ℕ → Bool) (x : SlotRead) → read_once (torn (Sectors reached) new_slot older_slot) long_page.a.expect ≡ x
     → {index : SlotIndex} {i : SlotInfo} → winner_info (decide x.status newer_read.status) ≡ Some (index, i)
     → {r : List ℕ} → payload_of i (by_index index (torn (Sectors reached) new_slot older_slot) newer_slot) ≡ r → accepts (Page 0 41) r ≡ true
-    → Written (long_write reached) x (record { a = x; b = newer_read }) r
+    → Written (long_write reached) x (record { a = x; b = newer_read; operator = 0 }) r
 long_read reached x read won {r} back takes =
     record {
       slot_is = rw (new_slot_is, older_slot_is) (read_once_is (torn (Sectors reached) new_slot older_slot) long_page.a.expect ∙ read);

@@ -80,14 +80,14 @@ pub pair_record : (a b : List ℕ) (expect_a expect_b : Expect) (decoder : Decod
     → read_once a expect_a ≡ x.a → read_once b expect_b ≡ x.b
     → {index : SlotIndex} {i : SlotInfo} → winner_info (decide x.a.status x.b.status) ≡ Some (index, i)
     → payload i (by_index index a b) ≡ r → accepts decoder r ≡ true
-    → PairRecord (record { a = slot_with a expect_a; b = slot_with b expect_b; decoder = decoder }) x r
+    → PairRecord (record { a = slot_with a expect_a; b = slot_with b expect_b; decoder = decoder; operator = x.operator }) x r
 unfolding read_pair
 pair_record a b expect_a expect_b decoder x r a_is b_is {index} {i} won back accepted =
     let a_read = read_once_is a expect_a ∙ a_is in
     let b_read = read_once_is b expect_b ∙ b_is in
-    let p : Pair = record { a = slot_with a expect_a; b = slot_with b expect_b; decoder = decoder } in
+    let p : Pair = record { a = slot_with a expect_a; b = slot_with b expect_b; decoder = decoder; operator = x.operator } in
     record {
-      read = ap₂ {C = Framed} (λ (s t : SlotRead). framed_read (record { a = s; b = t })) a_read b_read;
+      read = ap₂ {C = Framed} (λ (s t : SlotRead). framed_read (record { a = s; b = t; operator = x.operator })) a_read b_read;
       back =
           subst (PayloadIs p) (bytes_at index i ∙ back)
           (won_payload p index i (ap₂ (λ (s t : SlotRead). winner_info (decide s.status t.status)) a_read b_read ∙ won));

@@ -19,7 +19,7 @@ use Rattle.slot.specs.declared.slot.Expect.{Expect}
 use Rattle.slot.specs.declared.slot.EncodeError.{EncodeError}
 use Rattle.slot.proofs.RoundTripLaws.{round_trip}
 use Rattle.pair.specs.Pair.{winner_info}
-use Rattle.judge.specs.Numbers.{slots, highest}
+use Rattle.judge.specs.Numbers.{numbers, highest}
 use Rattle.judge.specs.Judge.{most_pairs}
 use Rattle.meta.specs.Block.{block_size, entries_per_page}
 use Rattle.meta.specs.Base.{base_at, check_base}
@@ -199,8 +199,8 @@ second_known =
     (Page 1 41) page_accepted.4
 
 -- A of generation 1, B Blank.
-first_written : (object number : ℕ) (payload : List ℕ) (decoder : Decoder) → object ≤ 2 → Known (fields 9 object SlotIndex.A 1 0 number) payload decoder
-    → SoundPair (record { a = written_slot (fields 9 object SlotIndex.A 1 0 number) payload; b = blank_slot object SlotIndex.B; decoder = decoder })
+first_written : (object number : ℕ) (payload : List ℕ) (decoder : Decoder) {operator : ℕ} → object ≤ 2 → Known (fields 9 object SlotIndex.A 1 0 number) payload decoder
+    → SoundPair (record { a = written_slot (fields 9 object SlotIndex.A 1 0 number) payload; b = blank_slot object SlotIndex.B; decoder = decoder; operator = operator })
 first_written object number payload decoder small known =
     record {
       slots = elim [ SlotIndex.A ↦ known.slot | SlotIndex.B ↦ blank_sound object SlotIndex.B (blank_fits object small) ];
@@ -216,9 +216,9 @@ unfolding first_written
 volume_sound = first_written 0 1 (volume_record false) Volume (lit≤ tt) volume_known
 
 -- A, and B of the generation after it.
-unfoldable pub both_written : {a b : SlotFields} {older newer : List ℕ} {decoder : Decoder} → Known a older decoder → Known b newer decoder
+unfoldable pub both_written : {a b : SlotFields} {older newer : List ℕ} {decoder : Decoder} {operator : ℕ} → Known a older decoder → Known b newer decoder
     → b.generation ≡ a.generation + 1 → a.meta_seq < b.meta_seq → b.prev_header_crc32c ≡ header_crc a older
-    → SoundPair (record { a = written_slot a older; b = written_slot b newer; decoder = decoder })
+    → SoundPair (record { a = written_slot a older; b = written_slot b newer; decoder = decoder; operator = operator })
 both_written {a} {b} {older} {newer} older_known newer_known next higher linked =
     record {
       slots = elim [ SlotIndex.A ↦ older_known.slot | SlotIndex.B ↦ newer_known.slot ];
@@ -241,34 +241,43 @@ second_sound = first_written 2 3 (page_record 1 0) (Page 1 41) (lit≤ tt) secon
 abbrev store_with : Pair → List Pair
 store_with p = volume_pair ∷ p ∷ second_page ∷ []
 
-pub sound_with : (p : Pair) → p.decoder ≡ Page 0 41 → SoundPair p → Sound (store_with p)
-sound_with p page sound =
+pub sound_with : (p : Pair) → p.decoder ≡ Page 0 41 → p.operator ≡ 0 → SoundPair p → Sound (store_with p)
+sound_with p page own sound =
     Sound.row refl
     (Every.more (record { index = 0; most = 41; decoder = page }) (Every.more (record { index = 1; most = 41; decoder = refl }) Every.none))
+    (rw own refl)
     (Every.more volume_sound (Every.more sound (Every.more second_sound Every.none)))
 
 pub unmarked_with : (p : Pair) → store_mark (store_with p) ≡ false
 unfolding volume_sound first_written volume_record_bytes
 unmarked_with p = unmarked_store volume_pair (p ∷ second_page ∷ []) volume_sound (ap (λ (r : List ℕ). get_or r 54 0) volume_known.record_is)
 
-pub highest_with : (p : Pair) (i j : SlotInfo) → status p.a ≡ SlotStatus.Valid i → status p.b ≡ SlotStatus.Valid j
-    → highest (slots (shown (store_with p))) ≡ max 1 (max 0 (max i.meta_seq (max j.meta_seq 3)))
-highest_with p i j valid_a valid_b =
+-- That of operator 0: the second page's number does not count.
+pub highest_with : (p : Pair) (i j : SlotInfo) → p.operator ≡ 0 → status p.a ≡ SlotStatus.Valid i → status p.b ≡ SlotStatus.Valid j
+    → highest (numbers 0 (shown (store_with p))) ≡ max 1 (max 0 (max i.meta_seq (max j.meta_seq 0)))
+highest_with p i j own valid_a valid_b =
     simp (
+      own,
       valid_number volume_pair SlotIndex.A (info_of volume_fields (volume_record false)) volume_known.valid,
       blank_number volume_pair SlotIndex.B (blank_status 0 SlotIndex.B),
       valid_number p SlotIndex.A i valid_a,
       valid_number p SlotIndex.B j valid_b,
+    )
+
+-- That of operator 1.
+second_highest : highest (numbers 1 (shown first_store)) ≡ 3
+second_highest =
+    simp (
       valid_number second_page SlotIndex.A (info_of second_fields (page_record 1 0)) second_known.valid,
       blank_number second_page SlotIndex.B (blank_status 2 SlotIndex.B),
     )
 
 pub sound : Sound first_store
-sound = sound_with first_page refl first_sound
+sound = sound_with first_page refl refl first_sound
 
-highest_number : highest (slots (shown first_store)) ≡ 4
+highest_number : highest (numbers 0 (shown first_store)) ≡ 4
 highest_number =
-    highest_with first_page (info_of older_fields (page_record 0 1)) (info_of newer_fields (page_record 0 2)) older_known.valid newer_known.valid
+    highest_with first_page (info_of older_fields (page_record 0 1)) (info_of newer_fields (page_record 0 2)) refl older_known.valid newer_known.valid
 
 -- ---- no accident
 
@@ -399,7 +408,7 @@ module _ (before : List Pair) (p : Pair) (behind : List Pair) (f : SlotFields) (
         room = length-replicate (2 ^ f.log2_slot_size) 0;
       }
 
--- The number is one above the highest n of the store.
+-- The number is one above its operator's highest n.
 pub one_above : {m n : ℕ} → m ≡ n → n + 1 ≡ m + 1
 one_above is = ap (λ (k : ℕ). k + 1) (sym is)
 
@@ -540,7 +549,18 @@ pub second_sum : header_crc second_fields (page_record 1 0) ≡ 0x2c8c_2a3c
 unfolding header_crc header_bytes page_header_bytes crc32c final_remainder remainder digest reversed
 second_sum = refl
 
-next_sums : (header_crc next_fields (page_record 1 1) ≡ 0x24b0_a7e6) × (crc32c (page_record 1 1) ≡ 0x09f7_d9dd)
+next_fits : Fits next_fields
+next_fits = fields_fit 9 2 SlotIndex.B 2 0x2c8c_2a3c _ (lit< tt) (lit< tt) (lit< tt) (lit< tt) (lit< tt) (lit< tt)
+
+second_correct : (k : ℕ) → CorrectWrite (second_write k)
+unfolding second_sound first_written
+second_correct k =
+    write_correct (volume_pair ∷ first_page ∷ []) second_page [] next_fields next_fits refl refl (one_above second_highest)
+    (info_of second_fields (page_record 1 0)) (sound_won second_page second_sound) refl (sym second_sum) (page_record 1 1) (page_bytes 1 1)
+    page_accepted.5
+    (page_fits 1 1) (Ascending k)
+
+next_sums : (header_crc next_fields (page_record 1 1) ≡ 0x1916_772d) × (crc32c (page_record 1 1) ≡ 0x09f7_d9dd)
 unfolding header_crc header_bytes page_header_bytes crc32c final_remainder remainder digest reversed
 next_sums = (refl, refl)
 
@@ -548,22 +568,11 @@ next_refusal : encode_check next_fields (page_record 1 1) 512 ≡ Ok tt
 unfolding encode_check page_header_bytes
 next_refusal = refl
 
-next_fits : Fits next_fields
-next_fits = fields_fit 9 2 SlotIndex.B 2 0x2c8c_2a3c 5 (lit< tt) (lit< tt) (lit< tt) (lit< tt) (lit< tt) (lit< tt)
-
-second_correct : (k : ℕ) → CorrectWrite (second_write k)
-unfolding second_sound first_written
-second_correct k =
-    write_correct (volume_pair ∷ first_page ∷ []) second_page [] next_fields next_fits refl refl (one_above highest_number)
-    (info_of second_fields (page_record 1 0)) (sound_won second_page second_sound) refl (sym second_sum) (page_record 1 1) (page_bytes 1 1)
-    page_accepted.5
-    (page_fits 1 1) (Ascending k)
-
 abbrev pub next_page : List ℕ
-next_page = summed_slot 0x24b0_a7e6 0x09f7_d9dd next_fields (page_record 1 1)
+next_page = summed_slot 0x1916_772d 0x09f7_d9dd next_fields (page_record 1 1)
 
 pub next_page_is : (encode next_fields (page_record 1 1) (zeros_for next_fields)).0 ≡ next_page
-next_page_is = summed_is next_fields (page_record 1 1) 0x24b0_a7e6 0x09f7_d9dd next_refusal next_sums.0 next_sums.1
+next_page_is = summed_is next_fields (page_record 1 1) 0x1916_772d 0x09f7_d9dd next_refusal next_sums.0 next_sums.1
 
 pub second_cut : SecondMet
 unfolding cut header_sum header_bytes page_header_bytes le crc32c final_remainder remainder digest reversed
@@ -590,7 +599,7 @@ later_sound =
     }
 
 pub later_store_sound : Sound later_store
-later_store_sound = sound_with later_page refl later_sound
+later_store_sound = sound_with later_page refl refl later_sound
 
 later_sums : (header_crc later_fields (page_record 0 0x21b9_61ac) ≡ 0xe83c_e718) × (crc32c (page_record 0 0x21b9_61ac) ≡ 0x906d_1021)
 unfolding header_crc header_bytes page_header_bytes crc32c final_remainder remainder digest reversed
@@ -608,7 +617,7 @@ unfolding later_sound
 later_correct k =
     write_correct (volume_pair ∷ []) later_page (second_page ∷ []) later_fields later_fits refl refl
     (one_above
-    (highest_with later_page (info_of new_fields (page_record 0 0x304)) (info_of newer_fields (page_record 0 2)) new_known.valid newer_known.valid))
+    (highest_with later_page (info_of new_fields (page_record 0 0x304)) (info_of newer_fields (page_record 0 2)) refl new_known.valid newer_known.valid))
     (info_of new_fields (page_record 0 0x304)) (sound_won later_page later_sound) refl (sym new_sums.0) (page_record 0 0x21b9_61ac)
     (page_bytes 0 0x21b9_61ac)
     page_accepted.3

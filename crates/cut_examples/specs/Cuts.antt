@@ -79,8 +79,9 @@ MagicCuts =
 -- ---- pages are written to slots B
 
 pub record OtherCuts : Type 0 where
-  -- To pair 2 over a Blank slot: the payload fails its checksum, generation, previous checksum and number follow on: InFlight.
-  pub second_140 : Computed (second_write 140) (torn_payload 2 5 0x24b0_a7e6 0x2c8c_2a3c) (Some (2, SlotIndex.B)) false (0 ∷ 1 ∷ 0 ∷ 1 ∷ 0 ∷ 2 ∷ 1 ∷ 0 ∷ 0 ∷ 1 ∷ 0 ∷ 3 ∷ []) old_records
+  -- To pair 2 over a Blank slot: the payload fails its checksum, generation and previous checksum follow on, and the number those of its
+  -- operator: InFlight.
+  pub second_140 : Computed (second_write 140) (torn_payload 2 4 0x1916_772d 0x2c8c_2a3c) (Some (2, SlotIndex.B)) false (0 ∷ 1 ∷ 0 ∷ 1 ∷ 0 ∷ 2 ∷ 1 ∷ 0 ∷ 0 ∷ 1 ∷ 0 ∷ 3 ∷ []) old_records
   -- To pair 1 over generation 2, beside generation 3 in A. The header fails its checksum, and the stored one is A's previous one:
   -- OlderDamaged.
   pub later_64 : Computed (later_write 64) (torn_header 0xe83c_e718) None false (0 ∷ 1 ∷ 0 ∷ 1 ∷ 0 ∷ 1 ∷ 0 ∷ 2 ∷ 0 ∷ 1 ∷ 0 ∷ 1 ∷ []) new_page_records

@@ -1,5 +1,5 @@
--- Three stores of three pairs, the volume record and two pages, in slots of 512 bytes and, for a page of more than one sector, of 1,024
--- (docs/FORMAT.md, "The sound store and the cut"). The checksums that a slot names are written as numbers.
+-- Three stores of three pairs, the volume record and two pages, the second one another operator's, in slots of 512 bytes and, for a page of
+-- more than one sector, of 1,024 (docs/FORMAT.md, "The sound store and the cut"). The checksums that a slot names are written as numbers.
 use Rattle.std.specs.Prelude.{Bool, true, false, List, [], ◌∷◌, ◌++◌, ℕ, ◌+◌, ◌*◌, ◌^◌, map, replicate}
 use Rattle.slot.specs.Status.{index_number}
 use Rattle.slot.specs.Write.{encode}
@@ -130,7 +130,7 @@ abbrev pub volume_fields : SlotFields
 volume_fields = fields 9 0 SlotIndex.A 1 0 1
 
 abbrev pub volume_pair : Pair
-volume_pair = record { a = written_slot volume_fields (volume_record false); b = blank_slot 0 SlotIndex.B; decoder = Volume }
+volume_pair = record { a = written_slot volume_fields (volume_record false); b = blank_slot 0 SlotIndex.B; decoder = Volume; operator = 0 }
 
 -- Pair 1: A of generation 1, B of generation 2, which names A's checksum.
 abbrev pub older_fields : SlotFields
@@ -140,21 +140,21 @@ abbrev pub newer_fields : SlotFields
 newer_fields = fields 9 1 SlotIndex.B 2 0x588e_9174 4
 
 abbrev pub first_page : Pair
-first_page = record { a = written_slot older_fields (page_record 0 1); b = written_slot newer_fields (page_record 0 2); decoder = Page 0 41 }
+first_page = record { a = written_slot older_fields (page_record 0 1); b = written_slot newer_fields (page_record 0 2); decoder = Page 0 41; operator = 0 }
 
--- Pair 2: A of generation 1, B Blank.
+-- Pair 2, of operator 1: A of generation 1, B Blank.
 abbrev pub second_fields : SlotFields
 second_fields = fields 9 2 SlotIndex.A 1 0 3
 
 abbrev pub second_page : Pair
-second_page = record { a = written_slot second_fields (page_record 1 0); b = blank_slot 2 SlotIndex.B; decoder = Page 1 41 }
+second_page = record { a = written_slot second_fields (page_record 1 0); b = blank_slot 2 SlotIndex.B; decoder = Page 1 41; operator = 1 }
 
 -- Pair 1 once a write to its slot A stands whole: A of generation 3, which names B's checksum, and B of generation 2.
 abbrev pub new_fields : SlotFields
 new_fields = fields 9 1 SlotIndex.A 3 0xe83c_e718 5
 
 abbrev pub later_page : Pair
-later_page = record { a = written_slot new_fields (page_record 0 0x304); b = written_slot newer_fields (page_record 0 2); decoder = Page 0 41 }
+later_page = record { a = written_slot new_fields (page_record 0 0x304); b = written_slot newer_fields (page_record 0 2); decoder = Page 0 41; operator = 0 }
 
 -- A pair of slots of 1,024 bytes: A of generation 1, B of generation 2, which names A's checksum. Its pages have four entries.
 abbrev pub long_older_fields : SlotFields
@@ -169,6 +169,7 @@ long_page =
       a = written_slot long_older_fields (long_record 0x2_0000 2);
       b = written_slot long_newer_fields (long_record 0x2_4000 4);
       decoder = Page 0 41;
+      operator = 0;
     }
 
 -- ---- the stores

@@ -1,5 +1,5 @@
--- The cut theorem is not empty (docs/FORMAT.md, "The sound store and the cut"): five writes to the stores of Stores.antt, cut at nineteen
--- places and with four sets of sectors, meet every hypothesis of it.
+-- The cut theorem is not empty (docs/FORMAT.md, "The sound store and the cut"): five writes to the stores of Stores.antt, one of them to the
+-- other operator's page, cut at nineteen places and with four sets of sectors, meet every hypothesis of it.
 use Rattle.std.specs.Prelude.{◌≡◌, Bool, true, false, ◌==◌, List, [], ◌∷◌, ℕ, ◌*◌, ◌≤◌, length}
 use Rattle.slot.specs.declared.slot.SlotIndex.{SlotIndex}
 use Rattle.slot.specs.declared.slot.SlotFields.{SlotFields}
@@ -55,9 +55,9 @@ marked_fields = fields 9 0 SlotIndex.B 2 0x1d15_7c74 5
 abbrev pub volume_write : ℕ → Write
 volume_write k = write_to [] volume_pair (first_page ∷ second_page ∷ []) marked_fields (volume_record true) (Ascending k)
 
--- A page to the Blank slot B of pair 2: generation 2, with A's checksum and number 5.
+-- A page to the Blank slot B of pair 2: generation 2, with A's checksum and number 4: its operator's highest is 3, and that of the others 4.
 abbrev pub next_fields : SlotFields
-next_fields = fields 9 2 SlotIndex.B 2 0x2c8c_2a3c 5
+next_fields = fields 9 2 SlotIndex.B 2 0x2c8c_2a3c 4
 
 abbrev pub second_write : ℕ → Write
 second_write k = write_to (volume_pair ∷ first_page ∷ []) second_page [] next_fields (page_record 1 1) (Ascending k)

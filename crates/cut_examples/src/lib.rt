@@ -1,7 +1,7 @@
-// The cut theorem is not empty: three stores are sound, writes to both slots of a page, to a Blank one and to the volume record are
-// correct, and cuts after no byte, in the header, in the payload and after the last byte, and with any of two sectors, are no accidents.
-// What is judged and read back after each cut is computed, and not concluded from the theorem. Each function does nothing: its contract is
-// what specs/Writes.antt and specs/Cuts.antt say.
+// The cut theorem is not empty: three stores of two operators are sound, writes to both slots of a page, to a Blank one and to the volume
+// record are correct, and cuts after no byte, in the header, in the payload and after the last byte, and with any of two sectors, are no
+// accidents. What is judged and read back after each cut is computed, and not concluded from the theorem. Each function does nothing: its
+// contract is what specs/Writes.antt and specs/Cuts.antt say.
 #![tactic(auto)]
 
 ghost use Rattle.cut_examples.specs.Writes.{StoresSound, StoresWritten, MetIsEnough, PageMet, VolumeMet, SecondMet, LaterMet, LongMet, StandsWhole, LongWhole, MarkHanded};

@@ -1,19 +1,20 @@
 -- The functions that plan a write give the writes of a history, and answer their numbers.
-use Rattle.std.proofs.Common.{◌≡◌, refl, sym, ap, ap₂, subst, ◌∙◌, true, false, List, ◌∷◌, ◌++◌, ℕ, ◌+◌, ◌*◌, ◌-◌, ◌^◌, ◌≤◌, arith, lt-ltb, length, replicate, length-append, slice_get, Option, Some, None, Ok}
+use Rattle.std.proofs.Common.{◌≡◌, refl, sym, ap, ap₂, subst, ◌∙◌, true, false, List, [], ◌∷◌, ◌++◌, ℕ, ◌+◌, ◌*◌, ◌-◌, ◌^◌, ◌≤◌, arith, lt-ltb, length, replicate, length-append, slice_get, Option, Some, None, Ok}
 use Rattle.std.proofs.Math.ListN.{length-replicate}
 use Rattle.std.proofs.lemmas.Option.{some_pair_parts, same_Some}
 use Rattle.slot.specs.Status.{other}
 use Rattle.slot.specs.declared.slot.SlotIndex.{SlotIndex}
 use Rattle.slot.specs.declared.slot.SlotInfo.{SlotInfo}
 use Rattle.pair.specs.Pair.{winner_info, next_write}
-use Rattle.judge.specs.Numbers.{slots, place, highest, highest_other}
+use Rattle.judge.specs.Numbers.{numbers, place, highest, highest_other}
+use Rattle.judge.specs.Operators.{operators_in_range}
 use Rattle.judge.specs.Judge.{most_pairs, judgement, unless}
-use Rattle.judge.specs.Frames.{verdict_width, pair_count, frames as frames_in, row, frames_error, judge_frames, refusal}
-use Rattle.judge.specs.Same.{frame_of}
+use Rattle.judge.specs.Frames.{verdict_width, operator_in, pair_count, frames as frames_in, row, frames_error, judge_frames, refusal}
+use Rattle.judge.specs.Same.{frame_of, Fits}
 use Rattle.judge.specs.declared.pairs.Pair.{Pair as ShownPair}
 use Rattle.judge.specs.declared.verdict.JudgeError.{JudgeError}
 use Rattle.judge.proofs.RowLaws.{answered}
-use Rattle.judge.proofs.SameLaws.{row-is}
+use Rattle.judge.proofs.SameLaws.{operator-read, row-is}
 use Rattle.cut.specs.Store.{Every, Pair, clean_mark, report, framed_pair, framed, shown, frames}
 use Rattle.cut.specs.Cut.{Tear, Write, store, next_number as next_number_of, CorrectWith, is_empty}
 use Rattle.cut.proofs.EveryLaws.{every_split}
@@ -21,7 +22,7 @@ use Rattle.cut.proofs.FrameLaws.{PairTyped, row_fits, count_frames, judged_row}
 use Rattle.cut.proofs.PairLaws.{other_other}
 use Rattle.cut.proofs.RowLaws.{rested_stands}
 use Rattle.plan.specs.Error.{unless_refused}
-use Rattle.plan.specs.Numbers.{after, highest_winner, next_number, heal_number}
+use Rattle.plan.specs.Numbers.{after, of_operator, highest_winner, next_number, heal_number}
 use Rattle.plan.specs.Pairs.{frame_report}
 use Rattle.plan.specs.Plan.{followed, plan_at, some_plan, plan_next, plan_for, plan_write}
 use Rattle.plan.specs.Heal.{with_pair, heal_in, heal_for, plan_heal}
@@ -36,7 +37,7 @@ use Rattle.history.specs.History.{Tracked, pairs, named, heal_number as heal_num
 use Rattle.history.specs.Laws.{NumbersAnswered, NumbersMeet, NumbersOfHistory, plan_of, AllowedIsPlanned, FreePlanIsAllowed, HealPlanIsAllowed}
 use Rattle.history.proofs.RowLaws.{rested_highest, others_are}
 use Rattle.history.proofs.States.{Rests, rested, all_rested, pairs_row, length_pairs, State, flies_stand, flies_number, flown_named, all_named, none_named, one_named}
-use Rattle.history.proofs.Theorem.{reached_state, reached_few}
+use Rattle.history.proofs.Theorem.{reached_state, reached_few, reached_range}
 
 -- ---- nothing is refused
 
@@ -44,12 +45,12 @@ module _ (ps : List Pair) (typed : Every PairTyped ps) where
   abbrev out : List ℕ
   out = replicate (pair_count (frames ps) * verdict_width) 0
 
-  not_refused : 1 ≤ length ps → length ps ≤ most_pairs → refusal (frames ps) 0 ≡ None
+  not_refused : 1 ≤ length ps → length ps ≤ most_pairs → operators_in_range true (shown ps) ≡ true → refusal (frames ps) 0 ≡ None
   unfolding judge_frames
-  not_refused some few =
+  not_refused some few range =
       (answered (refusal (frames ps) 0) (judgement (row (frames ps)) false) (judgement (shown ps) false)
       (sym (subst (λ (n : ℕ). unless (frames_error (frames ps) 0 n) (judgement (row (frames ps)) false) ≡ Ok (judgement (shown ps) false)) size
-      (judged_row ps some few false typed out (size ∙ ap (λ (n : ℕ). n * verdict_width) (count_frames ps)))))).0
+      (judged_row ps some few range false typed out (size ∙ ap (λ (n : ℕ). n * verdict_width) (count_frames ps)))))).0
     where
       size : length out ≡ pair_count (frames ps) * verdict_width
       size = length-replicate (pair_count (frames ps) * verdict_width) 0
@@ -59,42 +60,53 @@ module _ (ps : List Pair) (typed : Every PairTyped ps) where
 
 pub numbers_answered : NumbersAnswered
 unfolding next_number heal_number
-numbers_answered ps some few numbered =
-    let none = not_refused ps (all_typed numbered) some few in
-    let shows = row_shown ps (all_typed numbered) in (
-      ap₂ (λ (e : Option JudgeError) (row : List ShownPair). unless_refused e (after (highest (slots row)))) none shows,
-      ap₂ (λ (e : Option JudgeError) (row : List ShownPair). unless_refused e (after (highest_winner row))) none shows,
-    )
+numbers_answered =
+    record {
+      next = λ ps o some few range numbered.
+          ap₂ (λ (e : Option JudgeError) (row : List ShownPair). unless_refused e (of_operator o (after (highest (numbers o row)))))
+          (not_refused ps (all_typed numbered) some few range) (row_shown ps (all_typed numbered));
+      heal = λ ps o some few range numbered.
+          ap₂ (λ (e : Option JudgeError) (row : List ShownPair). unless_refused e (of_operator o (after (highest_winner o row))))
+          (not_refused ps (all_typed numbered) some few range) (row_shown ps (all_typed numbered));
+    }
 
 -- ---- the numbers of a history
+
+there : (before : List Pair) (p : Pair) (behind : List Pair) → slice_get (before ++ p ∷ behind) (length before) ≡ Some p
+there [] p behind = refl
+there (q ∷ before) p behind = there before p behind
 
 meet : (ts : List Tracked) → State ts → NumbersMeet (pairs ts)
 meet ts (State.all_rest some all) =
     record {
-      free = λ none. rested_highest (all_rested all);
-      healing = λ k index is. let never : ◌≡◌ {A = Option (ℕ × SlotIndex)} None (Some (k, index)) = sym (all_named some all) ∙ is in absurd cc;
+      free = λ none o. rested_highest o (all_rested all);
+      healing = λ k index p is at.
+          let never : ◌≡◌ {A = Option (ℕ × SlotIndex)} None (Some (k, index)) = sym (all_named some all) ∙ is in absurd cc;
     }
 meet ts (State.one_flies before t behind split rest_before fly rest_behind) =
     subst NumbersMeet (sym (ap pairs split ∙ pairs_row before t behind))
     (record { free = free; healing = healing })
   where
-    there : named (pairs before ++ t.pair ∷ pairs behind) ≡ Some (length (pairs before), other fly.x)
-    there = flown_named rest_before fly rest_behind
+    ps : List Pair
+    ps = pairs before ++ t.pair ∷ pairs behind
 
-    free : named (pairs before ++ t.pair ∷ pairs behind) ≡ None
-        → highest (slots (shown (pairs before ++ t.pair ∷ pairs behind))) ≡ highest_winner (shown (pairs before ++ t.pair ∷ pairs behind))
-    free none = let never : ◌≡◌ {A = Option (ℕ × SlotIndex)} None (Some (length (pairs before), other fly.x)) = sym none ∙ there in absurd cc
+    flown : named ps ≡ Some (length (pairs before), other fly.x)
+    flown = flown_named rest_before fly rest_behind
 
-    healing : (k : ℕ) (index : SlotIndex) → named (pairs before ++ t.pair ∷ pairs behind) ≡ Some (k, index)
-        → highest_other (place k index) (slots (shown (pairs before ++ t.pair ∷ pairs behind))) ≡ highest_winner (shown (pairs before ++ t.pair ∷ pairs behind))
-    healing k index is =
-        let both : ◌≡◌ {A = Option (ℕ × SlotIndex)} (Some (length (pairs before), other fly.x)) (Some (k, index)) = sym there ∙ is in
+    free : named ps ≡ None → (o : ℕ) → highest (numbers o (shown ps)) ≡ highest_winner o (shown ps)
+    free none o = let never : ◌≡◌ {A = Option (ℕ × SlotIndex)} None (Some (length (pairs before), other fly.x)) = sym none ∙ flown in absurd cc
+
+    healing : (k : ℕ) (index : SlotIndex) (p : Pair) → named ps ≡ Some (k, index) → slice_get ps k ≡ Some p
+        → highest_other (place k index) (numbers p.operator (shown ps)) ≡ highest_winner p.operator (shown ps)
+    healing k index p is at =
+        let both : ◌≡◌ {A = Option (ℕ × SlotIndex)} (Some (length (pairs before), other fly.x)) (Some (k, index)) = sym flown ∙ is in
         let parts = some_pair_parts _ _ _ _ both in
-        subst (λ (at : ℕ × SlotIndex).
-        highest_other (place at.0 at.1) (slots (shown (pairs before ++ t.pair ∷ pairs behind)))
-        ≡ highest_winner (shown (pairs before ++ t.pair ∷ pairs behind)))
+        let same : t.pair ≡ p =
+        same_Some _ _ (sym (there (pairs before) t.pair (pairs behind)) ∙ ap (slice_get ps) parts.0 ∙ at) in
+        subst (λ (q : Pair). highest_other (place k index) (numbers q.operator (shown ps)) ≡ highest_winner q.operator (shown ps)) same
+        (subst (λ (at : ℕ × SlotIndex). highest_other (place at.0 at.1) (numbers t.pair.operator (shown ps)) ≡ highest_winner t.pair.operator (shown ps))
         (ap₂ (λ (n : ℕ) (x : SlotIndex). (n, x)) parts.0 parts.1)
-        (others_are (all_rested rest_before) (all_rested rest_behind) t.pair fly.x fly.i fly.led.leads (flies_number fly))
+        (others_are (all_rested rest_before) (all_rested rest_behind) t.pair fly.x fly.i fly.led.leads (flies_number fly) t.pair.operator refl))
 
 pub numbers_of_history : NumbersOfHistory
 numbers_of_history ts reached = meet ts (reached_state reached)
@@ -130,10 +142,12 @@ module _ (before : List Tracked) (t : Tracked) (behind : List Tracked) (state : 
   some : 1 ≤ length ps
   some = let all = length-append (pairs before) (t.pair ∷ pairs behind) in omega arith
 
-  none_refused : length (before ++ t ∷ behind) ≤ most_pairs → refusal (frames ps) 0 ≡ None
-  none_refused few =
+  none_refused : length (before ++ t ∷ behind) ≤ most_pairs → operators_in_range true (shown (pairs (before ++ t ∷ behind))) ≡ true
+      → refusal (frames ps) 0 ≡ None
+  none_refused few range =
       not_refused ps (all_typed numbered) some
       (subst (λ (n : ℕ). n ≤ most_pairs) (sym (length_pairs (before ++ t ∷ behind)) ∙ ap length (pairs_row before t behind)) few)
+      (subst (λ (row : List Pair). operators_in_range true (shown row) ≡ true) (pairs_row before t behind) range)
 
   shows : row (frames ps) ≡ shown ps
   shows = row_shown ps (all_typed numbered)
@@ -141,8 +155,14 @@ module _ (before : List Tracked) (t : Tracked) (behind : List Tracked) (state : 
   at : slice_get (frames_in (frames ps)) (length (pairs before)) ≡ Some f
   at = frame_at (pairs before) t.pair (pairs behind)
 
+  fits : Fits (framed_pair t.pair)
+  fits = fits_at (pairs before) t.pair (pairs behind) (row_fits (all_typed numbered))
+
   reports : frame_report f ≡ held_report (report t.pair)
-  reports = frame_reports t.pair (fits_at (pairs before) t.pair (pairs behind) (row_fits (all_typed numbered)))
+  reports = frame_reports t.pair fits
+
+  operator_is : operator_in f ≡ t.pair.operator
+  operator_is = operator-read (framed_pair t.pair) fits
 
   module _ (x : SlotIndex) (i : SlotInfo) (won : winner_info (report t.pair) ≡ Some (x, i)) where
     follows : ◌≡◌ {A = ℕ × ℕ} (followed (frame_report f)) (i.generation, i.header_crc32c)
@@ -153,19 +173,20 @@ module _ (before : List Tracked) (t : Tracked) (behind : List Tracked) (state : 
 
 -- ---- every write of a history is planned
 
-free_number : {w : Write} {n : ℕ} → Turn w n → named (store w) ≡ None → n ≡ highest (slots (shown (store w))) + 1
+free_number : {w : Write} {n : ℕ} → Turn w n → named (store w) ≡ None → n ≡ highest (numbers w.pair.operator (shown (store w))) + 1
 free_number (Turn.free none) is = refl
 free_number {w} (Turn.healing there) is =
     let never : ◌≡◌ {A = Option (ℕ × SlotIndex)} None (Some (length w.before, w.index)) = sym is ∙ there in absurd cc
 
 healing_number : {w : Write} {n : ℕ} → Turn w n → named (store w) ≡ Some (length w.before, w.index)
-    → n ≡ highest_winner (shown (store w)) + 1
+    → n ≡ highest_winner w.pair.operator (shown (store w)) + 1
 healing_number (Turn.healing there) is = refl
 healing_number {w} (Turn.free none) is =
     let never : ◌≡◌ {A = Option (ℕ × SlotIndex)} None (Some (length w.before, w.index)) = sym none ∙ is in absurd cc
 
 module _ (before : List Tracked) (t : Tracked) (behind : List Tracked) (q : Put) (state : State (before ++ t ∷ behind))
-    (few : length (before ++ t ∷ behind) ≤ most_pairs) (allowed : Allowed (write_to before t behind q)) where
+    (few : length (before ++ t ∷ behind) ≤ most_pairs) (range : operators_in_range true (shown (pairs (before ++ t ∷ behind))) ≡ true)
+    (allowed : Allowed (write_to before t behind q)) where
   abbrev w : Write
   w = write_to before t behind q
 
@@ -192,36 +213,40 @@ module _ (before : List Tracked) (t : Tracked) (behind : List Tracked) (q : Put)
   numbers_meet : NumbersMeet (store w)
   numbers_meet = subst NumbersMeet (pairs_row before t behind) (meet (before ++ t ∷ behind) state)
 
+  abbrev o : ℕ
+  o = t.pair.operator
+
   planned_free : named (store w) ≡ None → plan_write (frames (store w)) (length w.before) ≡ Ok (Some (plan_of w))
   unfolding plan_write
   planned_free none =
-      ap₂ (λ (e : Option JudgeError) (at : Option (List ℕ)). unless_refused e (plan_for at (highest (slots (row (frames (store w)))))))
-      (none_refused before t behind state few) (at before t behind state)
-      ∙ ap (λ (row : List ShownPair). plan_for (Some (f before t behind state)) (highest (slots row))) (shows before t behind state)
-      ∙ ap (λ (next : Option SlotIndex). plan_next next (followed (frame_report (f before t behind state))) (highest (slots (shown (store w)))))
-      (next_is before t behind state (other q.index) i allowed.correct.won ∙ ap Some (other_other q.index))
-      ∙ ap some_plan (plan_is (highest (slots (shown (store w)))) (free_number allowed.turn none))
+      ap₂ (λ (e : Option JudgeError) (at : Option (List ℕ)). unless_refused e (plan_for at (row (frames (store w)))))
+      (none_refused before t behind state few range) (at before t behind state)
+      ∙ ap (plan_for (Some (f before t behind state))) (shows before t behind state)
+      ∙ ap₂ (λ (next : Option SlotIndex) (own : ℕ). plan_next next (followed (frame_report (f before t behind state))) (highest (numbers own (shown (store w)))))
+      (next_is before t behind state (other q.index) i allowed.correct.won ∙ ap Some (other_other q.index)) (operator_is before t behind state)
+      ∙ ap some_plan (plan_is (highest (numbers o (shown (store w)))) (free_number allowed.turn none))
 
   planned_healing : named (store w) ≡ Some (length w.before, w.index)
       → plan_heal (frames (store w)) 0 ≡ Ok (Some (length w.before, plan_of w))
   unfolding plan_heal
   planned_healing is =
       ap (λ (e : Option JudgeError). unless_refused e (heal_for (frames (store w)) (judgement (row (frames (store w))) false).heal))
-      (none_refused before t behind state few)
+      (none_refused before t behind state few range)
       ∙ ap (heal_for (frames (store w))) (ap (λ (row : List ShownPair). (judgement row false).heal) (shows before t behind state) ∙ is)
-      ∙ ap₂
-      (λ (at : Option (List ℕ)) (row : List ShownPair).
-      heal_in at (length (pairs before)) q.index (highest_other (place (length (pairs before)) q.index) (slots row)))
+      ∙ ap₂ (λ (at : Option (List ℕ)) (row : List ShownPair). heal_in at (length (pairs before)) q.index row)
       (at before t behind state) (shows before t behind state)
       ∙ ap (with_pair (length (pairs before)))
-      (plan_is (highest_other (place (length (pairs before)) q.index) (slots (shown (store w))))
-      (healing_number allowed.turn is ∙ ap (λ (n : ℕ). n + 1) (sym (numbers_meet.healing (length (pairs before)) q.index is))))
+      (ap (λ (own : ℕ). plan_at q.index (followed (frame_report (f before t behind state))) (highest_other (place (length (pairs before)) q.index) (numbers own (shown (store w)))))
+      (operator_is before t behind state)
+      ∙ plan_is (highest_other (place (length (pairs before)) q.index) (numbers o (shown (store w))))
+      (healing_number allowed.turn is
+      ∙ ap (λ (n : ℕ). n + 1) (sym (numbers_meet.healing (length (pairs before)) q.index t.pair is (there (pairs before) t.pair (pairs behind))))))
 
 pub allowed_is_planned : AllowedIsPlanned
 allowed_is_planned before t behind q reached allowed =
     record {
-      free = planned_free before t behind q (reached_state reached) (reached_few reached) allowed;
-      healing = planned_healing before t behind q (reached_state reached) (reached_few reached) allowed;
+      free = planned_free before t behind q (reached_state reached) (reached_few reached) (reached_range reached) allowed;
+      healing = planned_healing before t behind q (reached_state reached) (reached_few reached) (reached_range reached) allowed;
     }
 
 -- ---- what is planned is a write of a history
@@ -263,20 +288,19 @@ module _ (before : List Tracked) (t : Tracked) (behind : List Tracked) (plan : P
       let here = one_named before t behind plan.index state is_named in
       let won = (flies_stand here.fly (λ index number. true) refl refl).won in
       let frame_is : known.1.0 ≡ f before t behind state = same_Some _ _ (sym known.1.1.0 ∙ at before t behind state) in
-      let most : ℕ = highest_other (place (length (pairs before)) plan.index) (slots (shown (store written))) in
+      let most : ℕ = highest_other (place (length (pairs before)) plan.index) (numbers t.pair.operator (shown (store written))) in
       let has : Has (Some plan.index) (here.fly.i.generation, here.fly.i.header_crc32c) most plan =
-      subst (λ (row : List ShownPair).
-      Has (Some plan.index) (here.fly.i.generation, here.fly.i.header_crc32c)
-      (highest_other (place (length (pairs before)) plan.index) (slots row)) plan)
-      (shows before t behind state)
-      (subst (λ (r : ℕ × ℕ). Has (Some plan.index) r (highest_other (place (length (pairs before)) plan.index) (slots (row (frames (store written))))) plan)
-      (ap (λ (g : List ℕ). followed (frame_report g)) frame_is ∙ follows before t behind state here.fly.x here.fly.i won) known.1.1.1) in
+      subst (λ (r : ℕ × ℕ). Has (Some plan.index) r most plan)
+      (ap (λ (g : List ℕ). followed (frame_report g)) frame_is ∙ follows before t behind state here.fly.x here.fly.i won)
+      (subst (λ (n : ℕ). Has (Some plan.index) (followed (frame_report known.1.0)) n plan)
+      (ap₂ (λ (own : ℕ) (row : List ShownPair). highest_other (place (length (pairs before)) plan.index) (numbers own row))
+      (ap operator_in frame_is ∙ operator_is before t behind state) (shows before t behind state)) known.1.1.1) in
       let meets = subst NumbersMeet (pairs_row before t behind) (meet (before ++ t ∷ behind) state) in
       record {
         number = heal_number_of (store written) t.pair;
         turn = Turn.healing is_named;
         correct =
-            subst (λ (n : ℕ). CorrectWith (n + 1) written) (meets.healing (length (pairs before)) plan.index is_named)
+            subst (λ (n : ℕ). CorrectWith (n + 1) written) (meets.healing (length (pairs before)) plan.index t.pair is_named (there (pairs before) t.pair (pairs behind)))
             (given_correct (pairs before) t.pair (pairs behind) (here.fly.x, here.fly.i) plan owner compat payload buffer tear (Some plan.index) most won
             (sym here.beside) has given);
         unmarked = unmarked;

@@ -9,7 +9,7 @@ use Rattle.slot.specs.Payload.{payload as payload_of}
 use Rattle.slot.specs.declared.slot.SlotIndex.{SlotIndex}
 use Rattle.slot.specs.declared.slot.SlotInfo.{SlotInfo}
 use Rattle.slot.specs.declared.slot.Expect.{Expect}
-use Rattle.judge.specs.Numbers.{slots}
+use Rattle.judge.specs.Operators.{operators_in_range}
 use Rattle.judge.specs.Verdict.{winner_beside}
 use Rattle.judge.specs.Judge.{judgement, most_pairs}
 use Rattle.judge.specs.Frames.{verdict_width}
@@ -71,7 +71,7 @@ length_pairs ts = length-map ts (λ (t : Tracked). t.pair)
 
 -- The number of a write that heals, of the pair t between these.
 abbrev pub top : List Tracked → Pair → List Tracked → ℕ
-top before p behind = highest_winner (shown (pairs before ++ p ∷ pairs behind)) + 1
+top before p behind = highest_winner p.operator (shown (pairs before ++ p ∷ pairs behind)) + 1
 
 pub data State (ts : List Tracked) : Type 0 where
   all_rest : 1 ≤ length ts → Every Rests ts → State ts
@@ -107,6 +107,7 @@ pub record View (ts : List Tracked) (ps : List Pair) (out : List ℕ) : Type 0 w
   pub back : AllReadKnown ts verdict
 
 module _ {t : Tracked} {ts : List Tracked} (rests : Rests t) (rest : Every Rests ts) (few : length (t.pair ∷ pairs ts) ≤ most_pairs)
+    (range : operators_in_range true (shown (t.pair ∷ pairs ts)) ≡ true)
     (out : List ℕ) (room : length out ≡ length (t.pair ∷ pairs ts) * verdict_width) where
   rest_view : View (t ∷ ts) (t.pair ∷ pairs ts) out
   rest_view =
@@ -114,8 +115,8 @@ module _ {t : Tracked} {ts : List Tracked} (rests : Rests t) (rest : Every Rests
         verdict = rested_verdicts (all_rested (Every.more rests rest));
         judged =
             row_stands Every.none (all_rested rest) t.pair (quiet_explained (quiet_of (rested rests)).quiet)
-            (rested_stands (rested rests) (rule_at (slots (shown (t.pair ∷ pairs ts))) 0)) false (λ flight. refl)
-            (leads_typed rests.led.leads) few out room;
+            (rested_stands (rested rests) (rule_at t.pair.operator (shown (t.pair ∷ pairs ts)) 0)) false (λ flight. refl)
+            (leads_typed rests.led.leads) range few out room;
         back = all_known (Every.more rests rest);
       }
 
@@ -133,19 +134,19 @@ module _ {before : List Tracked} {t : Tracked} {behind : List Tracked} (rest_bef
   abbrev row : List Pair
   row = pairs before ++ t.pair ∷ pairs behind
 
-  flown_stands : Stands t.pair (rule_at (slots (shown row)) (length (pairs before))) fly.x fly.i SlotVerdict.InFlight
+  flown_stands : Stands t.pair (rule_at t.pair.operator (shown row) (length (pairs before))) fly.x fly.i SlotVerdict.InFlight
       (payload_of fly.i (slot_at fly.x t.pair).bytes)
   flown_stands =
-      flies_stand fly (rule_at (slots (shown row)) (length (pairs before))) refl
-      (flight_qualifies (all_rested rest_before) (all_rested rest_behind) t.pair fly.x fly.i fly.led.leads (flies_number fly))
+      flies_stand fly (rule_at t.pair.operator (shown row) (length (pairs before))) refl
+      (flight_qualifies (all_rested rest_before) (all_rested rest_behind) t.pair fly.x fly.i fly.led.leads (flies_number fly) t.pair.operator refl)
 
-  fly_view : length row ≤ most_pairs → (out : List ℕ) → length out ≡ length row * verdict_width → View (before ++ t ∷ behind) row out
-  fly_view few out room =
+  fly_view : length row ≤ most_pairs → operators_in_range true (shown row) ≡ true → (out : List ℕ) → length out ≡ length row * verdict_width → View (before ++ t ∷ behind) row out
+  fly_view few range out room =
       record {
         verdict = rested_verdicts (all_rested rest_before) ++ winner_beside fly.x SlotVerdict.InFlight ∷ rested_verdicts (all_rested rest_behind);
         judged =
             row_stands (all_rested rest_before) (all_rested rest_behind) t.pair Explained.torn flown_stands false (λ flight. refl)
-            (leads_typed fly.led.leads) few out room;
+            (leads_typed fly.led.leads) range few out room;
         back = row_known rest_before (known_back flown_stands fly.led.known) rest_behind;
       }
 
@@ -208,23 +209,29 @@ one_named before t behind index (one_flies before₁ t₁ behind₁ split rest_b
 
 -- ---- the promise
 
-view : (ts : List Tracked) → State ts → length (pairs ts) ≤ most_pairs → (out : List ℕ) → length out ≡ length (pairs ts) * verdict_width
-    → View ts (pairs ts) out
-view [] (all_rest some Every.none) few out room = absurd (omega arith)
-view (t ∷ ts) (all_rest some (Every.more rests rest)) few out room = rest_view rests rest few out room
-view ts (one_flies before t behind is rest_before fly rest_behind) few out room =
-    subst (λ (us : List Tracked). length (pairs us) ≤ most_pairs → length out ≡ length (pairs us) * verdict_width → View us (pairs us) out) (sym is)
-    (λ row_few row_room.
-    subst (λ (ps : List Pair). View (before ++ t ∷ behind) ps out) (sym (pairs_row before t behind))
-    (fly_view rest_before fly rest_behind (subst (λ (ps : List Pair). length ps ≤ most_pairs) (pairs_row before t behind) row_few) out
-    (row_room ∙ ap (λ (ps : List Pair). length ps * verdict_width) (pairs_row before t behind))))
-    few room
+view : (ts : List Tracked) → State ts → length (pairs ts) ≤ most_pairs → operators_in_range true (shown (pairs ts)) ≡ true
+    → (out : List ℕ) → length out ≡ length (pairs ts) * verdict_width → View ts (pairs ts) out
+view [] (all_rest some Every.none) few range out room = absurd (omega arith)
+view (t ∷ ts) (all_rest some (Every.more rests rest)) few range out room = rest_view rests rest few range out room
+view ts (one_flies before t behind is rest_before fly rest_behind) few range out room =
+    subst
+    (λ (us : List Tracked).
+    length (pairs us) ≤ most_pairs → operators_in_range true (shown (pairs us)) ≡ true → length out ≡ length (pairs us) * verdict_width
+    → View us (pairs us) out)
+    (sym is)
+    (λ row_few row_range row_room.
+    let row = pairs_row before t behind in
+    subst (λ (ps : List Pair). View (before ++ t ∷ behind) ps out) (sym row)
+    (fly_view rest_before fly rest_behind (subst (λ (ps : List Pair). length ps ≤ most_pairs) row row_few)
+    (subst (λ (ps : List Pair). operators_in_range true (shown ps) ≡ true) row row_range) out
+    (row_room ∙ ap (λ (ps : List Pair). length ps * verdict_width) row)))
+    few range room
 
-pub promised : (ts : List Tracked) → State ts → length ts ≤ most_pairs → (out : List ℕ) → length out ≡ length ts * verdict_width
-    → ((vs : List PairVerdict) → AllReadKnown ts vs → VolumeUnmarked (pairs ts)) → Promised ts out
-promised ts state few out room unmarked =
+pub promised : (ts : List Tracked) → State ts → length ts ≤ most_pairs → operators_in_range true (shown (pairs ts)) ≡ true
+    → (out : List ℕ) → length out ≡ length ts * verdict_width → ((vs : List PairVerdict) → AllReadKnown ts vs → VolumeUnmarked (pairs ts)) → Promised ts out
+promised ts state few range out room unmarked =
     let seen =
-    view ts state (subst (λ (n : ℕ). n ≤ most_pairs) (sym (length_pairs ts)) few) out
+    view ts state (subst (λ (n : ℕ). n ≤ most_pairs) (sym (length_pairs ts)) few) range out
     (room ∙ ap (λ (n : ℕ). n * verdict_width) (sym (length_pairs ts))) in
     record {
       verdict = seen.verdict;

@@ -13,7 +13,7 @@ use Rattle.slot.specs.declared.slot.SlotIndex.{SlotIndex}
 use Rattle.slot.specs.declared.slot.SlotInfo.{SlotInfo}
 use Rattle.slot.specs.declared.slot.SlotStatus.{SlotStatus}
 use Rattle.slot.specs.declared.slot.Expect.{Expect}
-use Rattle.judge.specs.Numbers.{slots, highest}
+use Rattle.judge.specs.Numbers.{numbers, highest}
 use Rattle.pair.specs.Pair.{winner_info}
 use Rattle.cut.specs.Store.{Every, Slot, Pair, slot_at, status, report, shown, last_record, SoundPair}
 use Rattle.cut.specs.Cut.{Write, size, expect, old, new, left, with_bytes, with_slot, Possible, whole, header_passes, payload_in}
@@ -106,7 +106,7 @@ module _ (before : List Tracked) (t : Tracked) (behind : List Tracked) (q : Put)
   abbrev w : Write
   w = write_to before t behind q
 
-  -- Every other pair rests, and the number is one above all winners.
+  -- Every other pair rests, and the number is one above the winners of the pair's operator.
   pub record Placed (n : ℕ) : Type 0 where
     pub first : Every Rests before
     pub here : Rests t ⊎ Flies t (top before t.pair behind)
@@ -117,8 +117,9 @@ module _ (before : List Tracked) (t : Tracked) (behind : List Tracked) (q : Put)
   turn state n (Turn.free none) =
       let all = none_named state (ap named (pairs_row before t behind) ∙ none) in
       let split = every_split before t behind all in
-      let tops = subst (λ (ps : List Pair). highest (slots (shown ps)) ≡ highest_winner (shown ps)) (pairs_row before t behind)
-      (rested_highest (all_rested all)) in
+      let o = t.pair.operator in
+      let tops = subst (λ (ps : List Pair). highest (numbers o (shown ps)) ≡ highest_winner o (shown ps)) (pairs_row before t behind)
+      (rested_highest o (all_rested all)) in
       record { first = split.0; here = inl split.1; rest = split.2; number = ap (λ (k : ℕ). k + 1) tops }
   turn state n (Turn.healing is) =
       let there = one_named before t behind q.index state is in
@@ -149,6 +150,11 @@ tracked_pair : (index : SlotIndex) (c : List ℕ) (after : Past) (known : List (
     → with_slot index c t.pair ≡ (tracked index c after known t).pair
 tracked_pair SlotIndex.A c after known t = refl
 tracked_pair SlotIndex.B c after known t = refl
+
+pub tracked_operator : (index : SlotIndex) (c : List ℕ) (after : Past) (known : List (List ℕ)) (t : Tracked)
+    → (tracked index c after known t).pair.operator ≡ t.pair.operator
+tracked_operator SlotIndex.A c after known t = refl
+tracked_operator SlotIndex.B c after known t = refl
 
 pub tracked_known : (index : SlotIndex) (c : List ℕ) (after : Past) (known : List (List ℕ)) (t : Tracked)
     → (tracked index c after known t).known ≡ known
@@ -222,7 +228,7 @@ module _ (before : List Tracked) (t : Tracked) (behind : List Tracked) (q : Put)
 
   below : i.meta_seq < n
   below =
-      let winners = winners_are (all_rested placed.first) (all_rested placed.rest) t.pair x i al.led.leads al.number in
+      let winners = winners_are (all_rested placed.first) (all_rested placed.rest) t.pair x i al.led.leads al.number t.pair.operator refl in
       let is = placed.number in
       omega arith
 
@@ -393,10 +399,12 @@ module _ (before : List Tracked) (t : Tracked) (behind : List Tracked) (q : Put)
     top_kept : Leads (torn_by wr t).pair x i → winner_number (shown_pair (torn_by wr t).pair) ≡ i.meta_seq
         → n ≡ top before (torn_by wr t).pair behind
     top_kept leads number_is =
-        let was = winners_are (all_rested placed.first) (all_rested placed.rest) t.pair x i al.led.leads al.number in
-        let is = winners_are (all_rested placed.first) (all_rested placed.rest) (torn_by wr t).pair x i leads number_is in
+        let o = t.pair.operator in
+        let same : (torn_by wr t).pair.operator ≡ o = tracked_operator index c after known t in
+        let was = winners_are (all_rested placed.first) (all_rested placed.rest) t.pair x i al.led.leads al.number o refl in
+        let is = winners_are (all_rested placed.first) (all_rested placed.rest) (torn_by wr t).pair x i leads number_is o same in
         let before_is = placed.number in
-        omega arith
+        rw same (omega arith)
 
     flies_on : Leads p' x i → Flying p' x i after.under known n → Outcome (torn_by wr t)
     flies_on leads flying =

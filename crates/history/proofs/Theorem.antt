@@ -4,23 +4,25 @@ use Rattle.std.specs.List.{IsAmong}
 use Rattle.std.proofs.lemmas.List.{length-map}
 use Rattle.slot.specs.Write.{header_crc}
 use Rattle.slot.specs.declared.slot.SlotInfo.{SlotInfo}
+use Rattle.judge.specs.Operators.{operators_in_range}
 use Rattle.judge.specs.Judge.{most_pairs}
 use Rattle.judge.specs.declared.verdict.PairVerdict.{PairVerdict}
-use Rattle.cut.specs.Store.{Every, Pair, clean_mark, store_mark, Sound}
+use Rattle.cut.specs.Store.{Every, Pair, clean_mark, shown, store_mark, Sound}
 use Rattle.cut.specs.Cut.{Write, new, left, is_empty}
 use Rattle.cut.proofs.EveryLaws.{same_length}
 use Rattle.cut.proofs.StatusLaws.{false_true}
 use Rattle.cut.proofs.StatementLaws.{one_payload}
-use Rattle.cut.proofs.Theorem.{sound_pairs}
+use Rattle.cut.proofs.Theorem.{sound_pairs, sound_range}
+use Rattle.cut.proofs.RowLaws.{range_kept}
 use Rattle.history.specs.History.{Past, Tracked, past, past_after, pairs, started, HistoryAccident, HarmfulAccident, write_to, finished, torn_by, Reached, AllReadKnown, VolumeUnmarked, HistoryTheorem}
 use Rattle.history.specs.Laws.{KnownRecords, ReadIsKnown, AsWritten, LinkAtMost, OnlyTheWritten, HarmfulAlone, HarmfulIsAccident}
-use Rattle.history.proofs.States.{State, all_named, promised}
-use Rattle.history.proofs.Steps.{start_all, tracked_known, under_whole, under_kept, finish_state, finish_named, cut_state, cut_named}
+use Rattle.history.proofs.States.{State, pairs_row, all_named, promised}
+use Rattle.history.proofs.Steps.{start_all, tracked_operator, tracked_known, under_whole, under_kept, finish_state, finish_named, cut_state, cut_named}
 
 -- ---- the states that are reached
 
 sound_some : {ps : List Pair} → Sound ps → 1 ≤ length (map started ps)
-sound_some (Sound.row volume pages all) = omega arith
+sound_some (Sound.row volume pages range all) = omega arith
 
 pub reached_state : {ts : List Tracked} → Reached HarmfulAccident ts → State ts
 reached_state (Reached.start sound few unmarked) = State.all_rest (sound_some sound) (start_all (sound_pairs sound))
@@ -36,6 +38,28 @@ reached_few (Reached.finish before t behind reached q allowed) =
     subst (λ (n : ℕ). n ≤ most_pairs) (same_length before t (finished (write_to before t behind q) t) behind) (reached_few reached)
 reached_few (Reached.cut before t behind reached q allowed possible none) =
     subst (λ (n : ℕ). n ≤ most_pairs) (same_length before t (torn_by (write_to before t behind q) t) behind) (reached_few reached)
+
+-- ---- and so do their operators
+
+started_pairs : (ps : List Pair) → pairs (map started ps) ≡ ps
+started_pairs [] = refl
+started_pairs (p ∷ ps) = ap (λ (qs : List Pair). p ∷ qs) (started_pairs ps)
+
+step_range : (before : List Tracked) (t u : Tracked) (behind : List Tracked) → u.pair.operator ≡ t.pair.operator
+    → operators_in_range true (shown (pairs (before ++ t ∷ behind))) ≡ true → operators_in_range true (shown (pairs (before ++ u ∷ behind))) ≡ true
+step_range before t u behind same range =
+    ap (λ (ps : List Pair). operators_in_range true (shown ps)) (pairs_row before u behind)
+    ∙ range_kept true (pairs before) t.pair u.pair (pairs behind) same
+    ∙ ap (λ (ps : List Pair). operators_in_range true (shown ps)) (sym (pairs_row before t behind))
+    ∙ range
+
+pub reached_range : {ts : List Tracked} → Reached HarmfulAccident ts → operators_in_range true (shown (pairs ts)) ≡ true
+reached_range (Reached.start {ps} sound few unmarked) =
+    ap (λ (qs : List Pair). operators_in_range true (shown qs)) (started_pairs ps) ∙ sound_range sound
+reached_range (Reached.finish before t behind reached q allowed) =
+    step_range before t (finished (write_to before t behind q) t) behind (tracked_operator q.index _ _ (q.payload ∷ []) t) (reached_range reached)
+reached_range (Reached.cut before t behind reached q allowed possible none) =
+    step_range before t (torn_by (write_to before t behind q) t) behind (tracked_operator q.index _ _ (q.payload ∷ t.known) t) (reached_range reached)
 
 -- ---- the volume record's mark stays false
 
@@ -120,7 +144,7 @@ only_the_written =
 
 pub harmful_alone : HarmfulAlone
 harmful_alone ts reached out room =
-    promised ts (reached_state reached) (reached_few reached) out room (λ vs back. mark_read back (reached_marks reached))
+    promised ts (reached_state reached) (reached_few reached) (reached_range reached) out room (λ vs back. mark_read back (reached_marks reached))
 
 pub harmful_is_accident : HarmfulIsAccident
 harmful_is_accident w before winner (HarmfulAccident.header header not_valid) = HistoryAccident.header header

@@ -61,9 +61,9 @@ started p = record { pair = p; a = past_of p.a; b = past_of p.b; known = last_re
 abbrev pub named : List Pair → Option (ℕ × SlotIndex)
 named ps = (judgement (shown ps) false).heal
 
--- The number of a write that heals a pair of the store: one above all winners.
+-- The number of a write that heals a pair of the store: one above the winners of its operator.
 abbrev pub heal_number : List Pair → Pair → ℕ
-heal_number ps p = highest_winner (shown ps) + 1
+heal_number ps p = highest_winner p.operator (shown ps) + 1
 
 -- Where a slot is named, the next write goes there; otherwise it is any. So its number is n.
 pub data Turn (w : Write) : ℕ → Type 0 where

@@ -1,19 +1,20 @@
 -- Laws on the words of the theorem over histories (docs/FORMAT.md, "A history of writes"): what is known, what is no accident and which of
 -- them it needs, which slot is named, which number a write has, and that the functions which plan a write plan those of a history. Each is
 -- the contract of a function.
-use Rattle.std.specs.Prelude.{◌≡◌, ◌⊎◌, true, false, Some, None, Ok, List, [], ◌∷◌, ◌++◌, ℕ, ◌*◌, ◌≤◌, length, take, map}
+use Rattle.std.specs.Prelude.{◌≡◌, ◌⊎◌, true, false, Some, None, Ok, List, [], ◌∷◌, ◌++◌, ℕ, ◌*◌, ◌≤◌, length, take, map, slice_get}
 use Rattle.std.specs.List.{IsAmong}
 use Rattle.slot.specs.Write.{header_crc}
 use Rattle.slot.specs.declared.slot.SlotIndex.{SlotIndex}
 use Rattle.slot.specs.declared.slot.SlotInfo.{SlotInfo}
-use Rattle.judge.specs.Numbers.{slots, place, highest, highest_other}
+use Rattle.judge.specs.Numbers.{numbers, place, highest, highest_other}
+use Rattle.judge.specs.Operators.{operators_in_range}
 use Rattle.judge.specs.Judge.{most_pairs}
 use Rattle.judge.specs.Frames.{verdict_width}
 use Rattle.judge.specs.declared.verdict.PairVerdict.{PairVerdict}
 use Rattle.cut.specs.Store.{Every, Pair, clean_mark, shown, last_record, frames, Sound}
 use Rattle.cut.specs.Cut.{Tear, Write, store, size, old, new, left, Possible, header_passes, is_empty, PayloadIs}
 use Rattle.plan.specs.declared.write.Plan.{Plan}
-use Rattle.plan.specs.Numbers.{after, highest_winner, next_number, heal_number}
+use Rattle.plan.specs.Numbers.{after, of_operator, highest_winner, next_number, heal_number}
 use Rattle.plan.specs.Plan.{plan_write}
 use Rattle.plan.specs.Heal.{plan_heal}
 use Rattle.plan.specs.Promise.{NumberedPair, write_of, IsGiven}
@@ -71,18 +72,20 @@ pub record OnlyTheWritten : Type 0 where
 
 -- ---- the numbers
 
--- Over the frames of typed pairs, no more than are judged, read in numbered format 2, `next_number` and `heal_number` answer the numbers of a
--- history, as far as they are below 2^64.
-abbrev pub NumbersAnswered : Type 0
-NumbersAnswered =
-    (ps : List Pair) → 1 ≤ length ps → length ps ≤ most_pairs → Every NumberedPair ps
-    → (next_number (frames ps) ≡ after (highest (slots (shown ps)))) × (heal_number (frames ps) ≡ after (highest_winner (shown ps)))
+-- Over the frames of typed pairs, no more than are judged, with operators in range and read in numbered format 2, `next_number` and
+-- `heal_number` answer the numbers of a history, as far as they are below 2^64.
+pub record NumbersAnswered : Type 0 where
+  pub next : (ps : List Pair) (o : ℕ) → 1 ≤ length ps → length ps ≤ most_pairs → operators_in_range true (shown ps) ≡ true → Every NumberedPair ps
+      → next_number (frames ps) o ≡ of_operator o (after (highest (numbers o (shown ps))))
+  pub heal : (ps : List Pair) (o : ℕ) → 1 ≤ length ps → length ps ≤ most_pairs → operators_in_range true (shown ps) ≡ true → Every NumberedPair ps
+      → heal_number (frames ps) o ≡ of_operator o (after (highest_winner o (shown ps)))
 
--- In a history the highest number is a winner's, and where a slot is named, the highest of all other slots is.
+-- In a history an operator's highest number is a winner's; and where a slot of the pair p is named, the highest of its operator's other
+-- slots is.
 pub record NumbersMeet (ps : List Pair) : Type 0 where
-  pub free : named ps ≡ None → highest (slots (shown ps)) ≡ highest_winner (shown ps)
-  pub healing : (k : ℕ) (index : SlotIndex) → named ps ≡ Some (k, index)
-      → highest_other (place k index) (slots (shown ps)) ≡ highest_winner (shown ps)
+  pub free : named ps ≡ None → (o : ℕ) → highest (numbers o (shown ps)) ≡ highest_winner o (shown ps)
+  pub healing : (k : ℕ) (index : SlotIndex) (p : Pair) → named ps ≡ Some (k, index) → slice_get ps k ≡ Some p
+      → highest_other (place k index) (numbers p.operator (shown ps)) ≡ highest_winner p.operator (shown ps)
 
 abbrev pub NumbersOfHistory : Type 0
 NumbersOfHistory = (ts : List Tracked) → Reached HarmfulAccident ts → NumbersMeet (pairs ts)

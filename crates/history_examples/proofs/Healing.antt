@@ -54,19 +54,19 @@ slots_read : (read_once older_slot long_page.a.expect ≡ older_read) × (read_o
 unfolding cut by_sector is_slot_length check passes_checksum is_malformed passes_payload payload_of header_sum header_bytes page_bytes page_header_bytes entry_bytes le crc32c final_remainder remainder digest reversed
 slots_read = (refl, refl, refl, refl)
 
-first_pair : PairRecord at_first.pair (record { a = older_read; b = newer_read }) newer_record
+first_pair : PairRecord at_first.pair (record { a = older_read; b = newer_read; operator = 0 }) newer_record
 unfolding payload_of header_bytes page_bytes page_header_bytes entry_bytes decide
 first_pair = rw older_slot_is (long_with older_slot older_read slots_read.0 refl refl accepted.1)
 
-torn_pair : PairRecord torn.pair (record { a = torn_read; b = newer_read }) newer_record
+torn_pair : PairRecord torn.pair (record { a = torn_read; b = newer_read; operator = 0 }) newer_record
 unfolding payload_of header_bytes page_bytes page_header_bytes entry_bytes decide
 torn_pair = rw (new_slot_is, older_slot_is) (long_with torn_slot torn_read slots_read.1 refl refl accepted.1)
 
-torn_again_pair : PairRecord torn_again.pair (record { a = torn_again_read; b = newer_read }) newer_record
+torn_again_pair : PairRecord torn_again.pair (record { a = torn_again_read; b = newer_read; operator = 0 }) newer_record
 unfolding payload_of header_bytes page_bytes page_header_bytes entry_bytes decide
 torn_again_pair = rw (new_slot_is, older_slot_is) (long_with torn_again_slot torn_again_read slots_read.2 refl refl accepted.1)
 
-healed_pair : PairRecord healed.pair (record { a = healed_read; b = newer_read }) new_record
+healed_pair : PairRecord healed.pair (record { a = healed_read; b = newer_read; operator = 0 }) new_record
 unfolding payload_of header_bytes page_bytes page_header_bytes entry_bytes decide
 healed_pair = rw new_slot_is (long_with new_slot healed_read slots_read.3 refl refl accepted.2)
 

@@ -83,15 +83,15 @@ torn_left = rw (new_page_is, old_page_is)
 again_left : left healing_write ≡ old_page
 again_left = rw (new_page_is, old_page_is, healing_slot_is) again_is
 
-torn_pair : PairRecord torn.pair (record { a = torn_header 0x588e_91d0; b = newer_read }) (page_record 0 2)
+torn_pair : PairRecord torn.pair (record { a = torn_header 0x588e_91d0; b = newer_read; operator = 0 }) (page_record 0 2)
 unfolding payload_of header_bytes page_header_bytes decide
 torn_pair = rw torn_left (first_with torn_slot (torn_header 0x588e_91d0) torn_read refl refl page_accepted.1)
 
-again_pair : PairRecord stood_again.pair (record { a = older_read; b = newer_read }) (page_record 0 2)
+again_pair : PairRecord stood_again.pair (record { a = older_read; b = newer_read; operator = 0 }) (page_record 0 2)
 unfolding payload_of header_bytes page_header_bytes decide
 again_pair = rw again_left (first_with old_page older_read slots_read.2 refl refl page_accepted.1)
 
-written_pair : PairRecord written.pair (record { a = new_read; b = newer_read }) (page_record 0 0x304)
+written_pair : PairRecord written.pair (record { a = new_read; b = newer_read; operator = 0 }) (page_record 0 0x304)
 unfolding payload_of header_bytes page_header_bytes decide
 written_pair = rw new_page_is (first_with new_page new_read slots_read.6 refl refl page_accepted.2)
 

@@ -1,6 +1,6 @@
 -- What a step of a history of the store needs, from how its pair 1 is read: the number of a write, that it is allowed, and that a cut is no
 -- accident.
-use Rattle.std.proofs.Common.{◌≡◌, refl, sym, ap, ◌∙◌, ◌⊎◌, inl, inr, true, false, ◌==◌, eq-eqb, List, [], ◌∷◌, ℕ, ◌+◌, ◌^◌, ◌≤◌, length, map, take, replicate, Option, Some, None, Ok}
+use Rattle.std.proofs.Common.{◌≡◌, refl, sym, ap, ap₂, ◌∙◌, ◌⊎◌, inl, inr, true, false, ◌==◌, eq-eqb, List, [], ◌∷◌, ℕ, ◌+◌, ◌^◌, ◌≤◌, length, map, take, replicate, Option, Some, None, Ok}
 use Rattle.std.proofs.lemmas.Option.{some_pair_parts}
 use Rattle.codec.specs.Bytes.{AllBytes, le32}
 use Rattle.codec.specs.Crc32c.{crc32c}
@@ -12,7 +12,7 @@ use Rattle.slot.specs.declared.slot.SlotInfo.{SlotInfo}
 use Rattle.slot.specs.declared.slot.SlotFields.{SlotFields}
 use Rattle.pair.specs.Pair.{decide, winner_info}
 use Rattle.pair.specs.Winner.{read_pair}
-use Rattle.judge.specs.Numbers.{slots, highest}
+use Rattle.judge.specs.Numbers.{numbers, highest}
 use Rattle.judge.specs.Judge.{judgement}
 use Rattle.judge.specs.Records.{pair_read}
 use Rattle.judge.specs.Frames.{judge_frames, frames_left}
@@ -20,7 +20,7 @@ use Rattle.judge.specs.Same.{Framed, pairs_of}
 use Rattle.judge.specs.declared.pairs.Pair.{Pair as ShownPair}
 use Rattle.judge.specs.declared.records.PairRead.{PairRead}
 use Rattle.cut.specs.Store.{Pair, accepts, slot_at, report, shown}
-use Rattle.cut.specs.Cut.{Tear, Write, new, left, header_passes}
+use Rattle.cut.specs.Cut.{Tear, Write, new, left, next_number, header_passes}
 use Rattle.cut.proofs.StatusLaws.{false_true}
 use Rattle.plan.specs.Numbers.{highest_winner}
 use Rattle.cut_examples.specs.Stores.{volume_record, page_record, volume_pair, second_page, read_with}
@@ -28,7 +28,7 @@ use Rattle.cut_examples.specs.Computed.{writable_store, blank_read}
 use Rattle.cut_examples.proofs.Writes.{write_correct}
 use Rattle.cut_examples.proofs.SlotsRead.{PairRecord, more, none, row_framed}
 use Rattle.cut_examples.proofs.Computed.{volume_read, second_read, volume_pair_read, second_page_read, row_with, judged_with}
-use Rattle.history.specs.History.{Past, Tracked, pairs, standing, Turn, Allowed, HistoryAccident}
+use Rattle.history.specs.History.{Past, Tracked, pairs, standing, heal_number, Turn, Allowed, HistoryAccident}
 use Rattle.history_examples.specs.States.{store_with, put, page_write, StateIs, NumbersAre}
 
 -- ---- what is written
@@ -45,7 +45,7 @@ pub record Fitting (p : Pair) (f : SlotFields) (payload : List ℕ) : Type 0 whe
 -- ---- what the judge is shown
 
 abbrev pub shown_row : PairRead → List ShownPair
-shown_row x = map pair_read (record { a = volume_read; b = blank_read } ∷ x ∷ record { a = second_read; b = blank_read } ∷ [])
+shown_row x = map pair_read (record { a = volume_read; b = blank_read; operator = 0 } ∷ x ∷ record { a = second_read; b = blank_read; operator = 1 } ∷ [])
 
 module _ (t : Tracked) {x : PairRead} {r : List ℕ} (pair : PairRecord t.pair x r) where
   shown_is : shown (pairs (store_with t)) ≡ shown_row x
@@ -56,12 +56,19 @@ module _ (t : Tracked) {x : PairRead} {r : List ℕ} (pair : PairRecord t.pair x
   unfolding read_pair
   report_is = ap (λ (f : Framed). decide f.pair.a.status f.pair.b.status) pair.read
 
-  pub numbers_by : {n m : ℕ} → highest (slots (shown_row x)) + 1 ≡ n → highest_winner (shown_row x) + 1 ≡ m → NumbersAre t n m
-  numbers_by next heal =
-      record {
-        next_is = ap (λ (ps : List ShownPair). highest (slots ps) + 1) shown_is ∙ next;
-        heal_is = ap (λ (ps : List ShownPair). highest_winner ps + 1) shown_is ∙ heal;
-      }
+  operator_is : t.pair.operator ≡ x.operator
+  operator_is = ap (λ (f : Framed). f.pair.operator) pair.read
+
+  -- The numbers, from what the judge is shown.
+  next_shown : next_number (pairs (store_with t)) t.pair ≡ highest (numbers x.operator (shown_row x)) + 1
+  next_shown = ap₂ (λ (o : ℕ) (ps : List ShownPair). highest (numbers o ps) + 1) operator_is shown_is
+
+  heal_shown : heal_number (pairs (store_with t)) t.pair ≡ highest_winner x.operator (shown_row x) + 1
+  heal_shown = ap₂ (λ (o : ℕ) (ps : List ShownPair). highest_winner o ps + 1) operator_is shown_is
+
+  pub numbers_by : {n m : ℕ} → highest (numbers x.operator (shown_row x)) + 1 ≡ n → highest_winner x.operator (shown_row x) + 1 ≡ m
+      → NumbersAre t n m
+  numbers_by next heal = record { next_is = next_shown ∙ next; heal_is = heal_shown ∙ heal }
 
   pub state_by : {heal : Option (ℕ × SlotIndex)} {verdict : List ℕ} {known : List (List ℕ)}
       → judge_frames (row_with x) 0 12 ≡ Ok (writable_store heal false)
@@ -91,23 +98,23 @@ module _ (t : Tracked) {x : PairRead} {r : List ℕ} (pair : PairRecord t.pair x
         }
 
     -- It is its turn where no slot is named,
-    pub free : (judgement (shown_row x) false).heal ≡ None → f.meta_seq ≡ highest (slots (shown_row x)) + 1 → {i : SlotInfo}
+    pub free : (judgement (shown_row x) false).heal ≡ None → f.meta_seq ≡ highest (numbers x.operator (shown_row x)) + 1 → {i : SlotInfo}
         → winner_info (decide x.a.status x.b.status) ≡ Some (other f.slot_index, i) → f.generation ≡ i.generation + 1
         → f.prev_header_crc32c ≡ i.header_crc32c
         → Allowed w
     free heal number =
         allowed_by (Turn.free (ap (λ (ps : List ShownPair). (judgement ps false).heal) shown_is ∙ heal))
-        (number ∙ ap (λ (ps : List ShownPair). highest (slots ps) + 1) (sym shown_is))
+        (number ∙ sym next_shown)
 
     -- and where its own is.
-    pub healing : (judgement (shown_row x) false).heal ≡ Some (1, f.slot_index) → f.meta_seq ≡ highest_winner (shown_row x) + 1
+    pub healing : (judgement (shown_row x) false).heal ≡ Some (1, f.slot_index) → f.meta_seq ≡ highest_winner x.operator (shown_row x) + 1
         → {i : SlotInfo}
         → winner_info (decide x.a.status x.b.status) ≡ Some (other f.slot_index, i) → f.generation ≡ i.generation + 1
         → f.prev_header_crc32c ≡ i.header_crc32c
         → Allowed w
     healing heal number =
         allowed_by (Turn.healing (ap (λ (ps : List ShownPair). (judgement ps false).heal) shown_is ∙ heal))
-        (number ∙ ap (λ (ps : List ShownPair). highest_winner ps + 1) (sym shown_is))
+        (number ∙ sym heal_shown)
 
     -- The winner that it is made beside is that of the pair.
     pub winner_is : (allowed : Allowed w) → {i : SlotInfo} → winner_info (decide x.a.status x.b.status) ≡ Some (other f.slot_index, i)

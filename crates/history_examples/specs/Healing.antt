@@ -14,7 +14,7 @@ use Rattle.history_examples.specs.States.{store_with, put, torn_page, finished_p
 
 -- ---- the history
 
--- Generation 3, with B's checksum and number 5: one above the highest of all numbered slots, and one above all winners.
+-- Generation 3, with B's checksum and number 5: of its operator, one above the highest of all numbered slots, and one above all winners.
 abbrev pub long_put : Tear → Put
 long_put tear = put long_fields (long_record 0x2_8000 5) tear
 
@@ -25,7 +25,7 @@ at_first = started long_page
 abbrev pub torn : Tracked
 torn = torn_page at_first (long_put (Ascending 64))
 
--- The write that heals has the same number, one above all winners. Of its two sectors the first reached the slot.
+-- The write that heals has the same number, one above all winners of its operator. Of its two sectors the first reached the slot.
 abbrev pub torn_again : Tracked
 torn_again = torn_page torn (long_put (Sectors the_first))
 

@@ -41,7 +41,7 @@ healing_write = page_write torn healing_put
 abbrev pub stood_again : Tracked
 stood_again = torn_page torn healing_put
 
--- Nothing is named: the number is one above the highest of all numbered slots, and finished all bytes are in the slot.
+-- Nothing is named: the number is one above the highest of all numbered slots of its operator, and finished all bytes are in the slot.
 abbrev pub written : Tracked
 written = finished_page stood_again (new_put (Ascending 512))
 

@@ -1,5 +1,5 @@
--- Histories of a store of three pairs (docs/FORMAT.md, "A history of writes") whose writes go to pair 1: the states that they lead to, and
--- what is computed of a state.
+-- Histories of a store of three pairs (docs/FORMAT.md, "A history of writes") whose writes go to pair 1, of operator 0: the states that they
+-- lead to, and what is computed of a state.
 use Rattle.std.specs.Prelude.{◌≡◌, false, List, [], ◌∷◌, ℕ, Option}
 use Rattle.slot.specs.declared.slot.SlotIndex.{SlotIndex}
 use Rattle.slot.specs.declared.slot.SlotFields.{SlotFields}

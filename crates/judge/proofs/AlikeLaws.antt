@@ -1,25 +1,22 @@
 -- No verdict is by an owner generation: a pair's case is not, and neither is a slot's number. Of the judgement, only whether the winners'
 -- differ is.
-use Rattle.std.proofs.Common.{◌≡◌, refl, sym, ap, ap₂, ◌∙◌, Bool, ◌&&◌, List, [], ◌∷◌, ℕ, zero, suc, eqb, length, map, arith, Option, Some, None, Ok}
+use Rattle.std.proofs.Common.{◌≡◌, refl, sym, ap, ap₂, ◌∙◌, Bool, true, false, ◌&&◌, List, [], ◌∷◌, ℕ, zero, suc, eqb, length, map, arith, Option, Some, None, Ok}
 use Rattle.std.specs.List.{list_all}
 use Rattle.slot.specs.declared.slot.SlotIndex.{SlotIndex}
 use Rattle.judge.specs.declared.pairs.Shown.{Shown}
 use Rattle.judge.specs.declared.pairs.Pair.{Pair}
-use Rattle.judge.specs.declared.numbers.Maxima.{Maxima}
 use Rattle.judge.specs.declared.part.SlotPart.{SlotPart}
 use Rattle.judge.specs.declared.verdict.PairVerdict.{PairVerdict}
 use Rattle.judge.specs.declared.verdict.Judgement.{Judgement}
 use Rattle.judge.specs.declared.verdict.JudgeError.{JudgeError}
 use Rattle.judge.specs.Pairs.{numbered, pair_case}
-use Rattle.judge.specs.Numbers.{number, slots}
-use Rattle.judge.specs.Maxima.{no_maxima, note, noted, note_all}
+use Rattle.judge.specs.Numbers.{numbers}
+use Rattle.judge.specs.Operators.{operators_in_range}
 use Rattle.judge.specs.Owners.{owner, owners, any_two_differ}
-use Rattle.judge.specs.Judge.{first_verdicts, any_candidate, page_candidate, first_tally, row_rules, verdicts, judgement, unless}
-use Rattle.judge.specs.Passes.{verdicts_by}
+use Rattle.judge.specs.Judge.{verdicts_from, first_verdicts, any_candidate, page_candidate, first_tally, row_rules, verdicts, judgement, unless}
 use Rattle.judge.specs.Part.{part_width, part_at, part_shown, is_in_range}
 use Rattle.judge.specs.Frames.{pair_from, pair_in_range, frames, row, frames_error, judge_frames, frames_left}
 use Rattle.judge.specs.Alike.{with_owner, without_owners, without_differ, OwnersAside, with_owner_in, with_owner_at, winner_at, LosersUnread, part_without_owner, parts_without_owners, answer_without_differ, FramesAside}
-use Rattle.judge.proofs.PassLaws.{verdicts-same}
 
 -- ---- a pair
 
@@ -27,33 +24,28 @@ numbered-same : (o : ℕ) (s : Shown) → numbered (with_owner o s) ≡ numbered
 numbered-same o s = grind arith
 
 case-same : (p : Pair) → pair_case (without_owners p) ≡ pair_case p
-case-same p = go p.a p.b
+case-same p = go p.a p.b p.operator
   where
-    go : (a b : Shown) → pair_case (without_owners (record { a = a; b = b })) ≡ pair_case (record { a = a; b = b })
-    go a b = grind arith
+    go : (a b : Shown) (o : ℕ) → pair_case (without_owners (record { a = a; b = b; operator = o })) ≡ pair_case (record { a = a; b = b; operator = o })
+    go a b o = grind arith
 
 -- ---- a row
 
-noted-same : (m : Maxima) (s : Shown) → noted m (with_owner 0 s) ≡ noted m s
-noted-same m s = ap (λ (n : Option ℕ). note m (number n)) (numbered-same 0 s)
+numbers-same : (o : ℕ) (ps : List Pair) → numbers o (map without_owners ps) ≡ numbers o ps
+numbers-same o [] = refl
+numbers-same o (p ∷ ps) = rw (numbered-same 0 p.a, numbered-same 0 p.b, numbers-same o ps)
 
-maxima-same : (m : Maxima) (ps : List Pair) → note_all m (slots (map without_owners ps)) ≡ note_all m (slots ps)
-maxima-same m [] = refl
-maxima-same m (p ∷ ps) =
-    ap (λ (n : Maxima). note_all n (slots (map without_owners ps)))
-    (ap (λ (n : Maxima). noted n (with_owner 0 p.b)) (noted-same m p.a) ∙ noted-same (noted m p.a) p.b)
-    ∙ maxima-same (noted (noted m p.a) p.b) ps
-
-verdicts-by : (m : Maxima) (ps : List Pair) → verdicts_by m (map without_owners ps) ≡ verdicts_by m ps
-verdicts-by m [] = refl
-verdicts-by m (p ∷ ps) = rw (case-same p, verdicts-by m ps)
+verdicts-from : (all : List Pair) (i : ℕ) (ps : List Pair) → verdicts_from (map without_owners all) i (map without_owners ps) ≡ verdicts_from all i ps
+verdicts-from all i [] = refl
+verdicts-from all i (p ∷ ps) = rw (case-same p, numbers-same p.operator all, verdicts-from all (suc i) ps)
 
 first-same : (ps : List Pair) → first_verdicts (map without_owners ps) ≡ first_verdicts ps
-first-same ps =
-    sym (verdicts-same (map without_owners ps))
-    ∙ ap (λ (m : Maxima). verdicts_by m (map without_owners ps)) (maxima-same no_maxima ps)
-    ∙ verdicts-by (note_all no_maxima (slots ps)) ps
-    ∙ verdicts-same ps
+unfolding first_verdicts
+first-same ps = verdicts-from ps 0 ps
+
+operators-same : (volume : Bool) (ps : List Pair) → operators_in_range volume (map without_owners ps) ≡ operators_in_range volume ps
+operators-same volume [] = refl
+operators-same volume (p ∷ ps) = rw (operators-same false ps)
 
 candidate-same : (ps : List Pair) → any_candidate (map without_owners ps) ≡ any_candidate ps
 candidate-same [] = refl
@@ -130,7 +122,7 @@ losers_unread ps clean k index o other =
 -- ---- frames
 
 abbrev Parts : Type 0
-Parts = SlotPart × SlotPart
+Parts = SlotPart × SlotPart × ℕ
 
 shown-aside : (p : SlotPart) → with_owner 0 (part_shown p) ≡ part_shown (part_without_owner p)
 shown-aside p = grind arith
@@ -139,7 +131,7 @@ range-aside : (p : SlotPart) → is_in_range p ≡ is_in_range (part_without_own
 range-aside p = grind arith
 
 abbrev pair_by : Parts → Pair
-pair_by parts = record { a = part_shown parts.0; b = part_shown parts.1 }
+pair_by parts = record { a = part_shown parts.0; b = part_shown parts.1; operator = parts.2 }
 
 abbrev range_by : Parts → Bool
 range_by parts = is_in_range parts.0 && is_in_range parts.1
@@ -160,7 +152,8 @@ module _ (s t : List ℕ) (long : length s ≡ length t) (same : map parts_witho
   unfolding frames_error
   error-same clean room =
       let within = ranges-by (frames s) ∙ ap (list_all range_by) same ∙ sym (ranges-by (frames t)) in
-      rw (within, long)
+      let operators = sym (operators-same true (row s)) ∙ ap (operators_in_range true) row-same ∙ operators-same true (row t) in
+      rw (within, operators, long)
 
 aside-unless : (e : Option JudgeError) (j k : Judgement) → without_differ j ≡ without_differ k
     → answer_without_differ (unless e j) ≡ answer_without_differ (unless e k)

@@ -1,11 +1,10 @@
 -- What the judge over frames answers is the judge's answer over their row, and its verdicts, four bytes each, are those bytes joined.
 use Rattle.std.proofs.Common.{◌≡◌, refl, ap, ◌∙◌, Bool, true, false, not, List, [], ◌∷◌, ◌++◌, ℕ, zero, suc, ◌+◌, ◌-◌, ◌*◌, ◌/◌, ◌%◌, ◌<◌, ◌≤◌, ◌&&◌, length, get_or, set, take, drop, map, flat_map, slice_get, arith, eqb, leb, ltb, eqb-true, eq-eqb, ne_eqb, lt-ltb, Some, None}
 use Rattle.std.specs.Int.{from_bool}
-use Rattle.std.specs.List.{list_all}
 use Rattle.judge.specs.declared.verdict.PairVerdict.{PairVerdict}
 use Rattle.judge.specs.declared.verdict.JudgeError.{JudgeError}
 use Rattle.judge.specs.Judge.{most_pairs, error}
-use Rattle.judge.specs.Frames.{frame_width, verdict_width, pair_count, pair_in_range, frames, verdict_bytes, verdict_from, verdict_cells, row_bytes, frames_error}
+use Rattle.judge.specs.Frames.{frame_width, verdict_width, pair_count, frames_in_range, verdict_bytes, verdict_from, verdict_cells, row_bytes, frames_error}
 
 -- Both tests say the same. The library has none of these.
 pub same_test : (m n j k : ℕ) → (m ≡ n → j ≡ k) → (j ≡ k → m ≡ n) → eqb m n ≡ eqb j k
@@ -22,15 +21,15 @@ has_rest s = not (eqb (length s % frame_width) 0)
 pub by_row : (s : List ℕ) (clean room : ℕ)
     → frames_error s clean room
     ≡ error (not (has_rest s) && eqb (pair_count s) 0) (ltb (most_pairs - from_bool (has_rest s)) (pair_count s)) (not (has_rest s))
-    (eqb room (pair_count s * verdict_width)) (leb clean 1 && list_all pair_in_range (frames s))
+    (eqb room (pair_count s * verdict_width)) (leb clean 1 && frames_in_range s)
 unfolding frames_error
 by_row s clean room = go (eqb (length s % frame_width) 0) refl
   where
     go : (whole : Bool) → eqb (length s % frame_width) 0 ≡ whole
         → error (eqb (length s) 0) (ltb (most_pairs * frame_width) (length s)) whole (eqb room (pair_count s * verdict_width))
-        (leb clean 1 && list_all pair_in_range (frames s))
+        (leb clean 1 && frames_in_range s)
         ≡ error (not (not whole) && eqb (pair_count s) 0) (ltb (most_pairs - from_bool (not whole)) (pair_count s)) (not (not whole))
-        (eqb room (pair_count s * verdict_width)) (leb clean 1 && list_all pair_in_range (frames s))
+        (eqb room (pair_count s * verdict_width)) (leb clean 1 && frames_in_range s)
     go true is =
         let whole = eqb-true (length s % frame_width) 0 is in
         let over = same_order (most_pairs * frame_width) (length s) most_pairs (pair_count s) (λ is. omega (arith, is)) (λ is. omega (arith, is)) in
@@ -44,7 +43,7 @@ by_row s clean room = go (eqb (length s % frame_width) 0) refl
 pub whole : (s : List ℕ) (clean room : ℕ) → length s % frame_width ≡ 0
     → frames_error s clean room
     ≡ error (eqb (pair_count s) 0) (ltb most_pairs (pair_count s)) true (eqb room (pair_count s * verdict_width))
-    (leb clean 1 && list_all pair_in_range (frames s))
+    (leb clean 1 && frames_in_range s)
 whole s clean room frames_are = by_row s clean room ∙ rw (eq-eqb (length s % frame_width) 0 frames_are)
 
 -- More bytes than the most pairs have are too many, whatever they hold.

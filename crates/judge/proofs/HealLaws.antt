@@ -3,11 +3,9 @@
 use Rattle.std.proofs.Common.{◌≡◌, refl, ap, ◌∙◌, Bool, true, false, cond, List, [], ◌∷◌, ℕ, zero, suc, ◌+◌, ◌≤◌, zero-add, arith, eqb-true, eqb, Option, Some, None, subst}
 use Rattle.std.specs.Option.{option_or}
 use Rattle.slot.specs.declared.slot.SlotIndex.{SlotIndex}
-use Rattle.judge.specs.declared.pairs.Shown.{Shown}
 use Rattle.judge.specs.declared.pairs.Pair.{Pair}
 use Rattle.judge.specs.declared.pairs.PairCase.{PairCase}
 use Rattle.judge.specs.Pairs.{pair_case}
-use Rattle.judge.specs.Numbers.{slots}
 use Rattle.judge.specs.declared.verdict.SlotVerdict.{SlotVerdict}
 use Rattle.judge.specs.declared.verdict.PairVerdict.{PairVerdict}
 use Rattle.judge.specs.Verdict.{by_index, pair_verdict, is_in_flight, in_flight}
@@ -29,7 +27,7 @@ one-of-pair q PairCase.Lost = refl
 one-of-pair q (PairCase.Won SlotIndex.A o) = grind arith
 one-of-pair q (PairCase.Won SlotIndex.B o) = grind arith
 
-candidates-from : (all : List Shown) (i : ℕ) (ps : List Pair) → slots_in_flight (verdicts_from all i ps) ≡ candidates (verdicts_from all i ps)
+candidates-from : (all : List Pair) (i : ℕ) (ps : List Pair) → slots_in_flight (verdicts_from all i ps) ≡ candidates (verdicts_from all i ps)
 candidates-from all i [] = refl
 candidates-from all i (p ∷ ps) = rw (one-of-pair _ (pair_case p), candidates-from all (suc i) ps, one_more)
   where
@@ -38,7 +36,7 @@ candidates-from all i (p ∷ ps) = rw (one-of-pair _ (pair_case p), candidates-f
 
 first-candidates : (ps : List Pair) → slots_in_flight (first_verdicts ps) ≡ candidates (first_verdicts ps)
 unfolding first_verdicts
-first-candidates ps = candidates-from (slots ps) 0 ps
+first-candidates ps = candidates-from ps 0 ps
 
 -- ---- the second pass: at most one slot is in flight
 

@@ -1,4 +1,5 @@
 pub mod NumberLaws
+pub mod OperatorLaws
 pub mod PassLaws
 pub mod RowLaws
 pub mod OwnerLaws

@@ -67,7 +67,7 @@ pub length_part : (p : SlotPart) → length (part_bytes p) ≡ part_width
 unfolding part_bytes
 length_part p = refl
 
-byte-read : (s t : List ℕ) (p x : ℕ) → Rest s p (x ∷ t) → get_or s p 0 ≡ x
+pub byte-read : (s t : List ℕ) (p x : ℕ) → Rest s p (x ∷ t) → get_or s p 0 ≡ x
 byte-read s t p x r = let here = drop-cons s p 0 (omega (arith, r.size)) in let is = r.is in cc
 
 pub part-read : (s t : List ℕ) (at : ℕ) (p : SlotPart) → VersionFits p.version → Rest s at (part_bytes p ++ t) → part_at s at ≡ p

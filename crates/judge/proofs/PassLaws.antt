@@ -1,6 +1,6 @@
 -- The first pass as the code makes it is the definition's: a candidate's number is the one that its slot counts for, so the code's rule and
 -- the definition's agree on every pair; and the tally kept from pair to pair is that of the row.
-use Rattle.std.proofs.Common.{◌≡◌, refl, ◌∙◌, subst, Bool, true, false, cond, ◌||◌, List, [], ◌∷◌, ℕ, suc, ◌+◌, ◌*◌, add-zero, zero-add, arith, Option, Some, None}
+use Rattle.std.proofs.Common.{◌≡◌, refl, ◌∙◌, subst, Bool, true, false, cond, ◌||◌, List, [], ◌∷◌, ℕ, suc, ◌+◌, ◌*◌, add-zero, zero-add, arith, eqb, eq-eqb, Option, Some, None}
 use Rattle.std.proofs.Math.Bool.{or_assoc, or-false}
 use Rattle.std.specs.Option.{option_or}
 use Rattle.slot.specs.declared.slot.SlotIndex.{SlotIndex}
@@ -10,16 +10,17 @@ use Rattle.judge.specs.declared.pairs.Shown.{Shown}
 use Rattle.judge.specs.declared.pairs.Pair.{Pair}
 use Rattle.judge.specs.declared.pairs.Opposite.{Opposite}
 use Rattle.judge.specs.declared.pairs.PairCase.{PairCase}
-use Rattle.judge.specs.declared.numbers.Maxima.{Maxima}
+use Rattle.judge.specs.declared.numbers.Counts.{Counts}
 use Rattle.judge.specs.declared.verdict.PairVerdict.{PairVerdict}
 use Rattle.judge.specs.declared.verdict.Tally.{Tally}
 use Rattle.judge.specs.Pairs.{numbered, opposite, is_unsupported, valid, winner, pair_case}
-use Rattle.judge.specs.Numbers.{slots, place, qualifies}
-use Rattle.judge.specs.Maxima.{no_maxima, note_all, qualifies_by, by_maxima}
+use Rattle.judge.specs.Numbers.{number_for, numbers, place, qualifies}
+use Rattle.judge.specs.Operators.{operators_in_range}
+use Rattle.judge.specs.Maxima.{no_maxima, note_all, no_counts, note_two, note_pairs, qualifies_by, by_maxima}
 use Rattle.judge.specs.Verdict.{by_index, slot_verdict, pair_verdict, in_flight}
 use Rattle.judge.specs.Judge.{verdicts_from, first_verdicts, candidates, any_candidate, any_trouble, any_refused, first_tally, pair_heal, heal}
-use Rattle.judge.specs.Passes.{verdicts_by, no_tally, tallied, tallies, heals}
-use Rattle.judge.proofs.NumberLaws.{At, qualifies-same}
+use Rattle.judge.specs.Passes.{verdict_by, verdicts_by, no_tally, tallied, tallies, heals}
+use Rattle.judge.proofs.NumberLaws.{At, qualifies-same, counts-same}
 
 -- ---- a candidate's number is the one that its slot counts for
 
@@ -60,14 +61,19 @@ module _ (q r : SlotIndex → Option ℕ → Bool) (p : Pair)
       go false None (Some b) = simp (beside SlotIndex.B b (opposite SlotIndex.B b p.a) refl)
       go false (Some a) (Some b) = grind arith
 
-verdicts-from : (all : List Shown) (i : ℕ) (ps : List Pair)
-    → ((j : ℕ) (s : Shown) → At j (slots ps) s → At (2 * i + j) all s)
-    → verdicts_by (note_all no_maxima all) ps ≡ verdicts_from all i ps
-verdicts-from all i [] within = refl
-verdicts-from all i (p ∷ ps) within =
-    let here = verdict-same (by_maxima (note_all no_maxima all)) (λ index. qualifies all (place i index)) p (λ index. refl) agree in
-    let rest = verdicts-from all (suc i) ps (λ j s at. subst (λ (k : ℕ). At k all s) (next i j) (within (suc (suc j)) s (At.there (At.there at)))) in
-    rw (here, rest)
+verdicts-from : (all : List Pair) → operators_in_range true all ≡ true → (i : ℕ) (ps : List Pair)
+    → ((o j v : ℕ) → At j (numbers o ps) v → At (2 * i + j) (numbers o all) v)
+    → verdicts_by (note_pairs note_two no_counts all) ps ≡ verdicts_from all i ps
+verdicts-from all range i [] within = refl
+verdicts-from all range i (p ∷ ps) within =
+    let maxima = counts-same p.operator all range in
+    let here =
+    verdict-same (by_maxima (note_all no_maxima (numbers p.operator all))) (λ index. qualifies (numbers p.operator all) (place i index)) p (λ index. refl)
+    agree in
+    let rest =
+    verdicts-from all range (suc i) ps
+    (λ o j v at. subst (λ (k : ℕ). At k (numbers o all) v) (next i j) (within o (suc (suc j)) v (At.there (At.there at)))) in
+    rw (maxima, here, rest)
   where
     next : (i j : ℕ) → 2 * i + suc (suc j) ≡ 2 * suc i + j
     next i j = omega arith
@@ -75,14 +81,23 @@ verdicts-from all i (p ∷ ps) within =
     first : (i : ℕ) → 2 * i + 0 ≡ 2 * i
     first i = omega arith
 
-    agree : (index : SlotIndex) (v : ℕ) → numbered (by_index index p.a p.b) ≡ Some v
-        → qualifies_by (note_all no_maxima all) (Some v) ≡ qualifies all (place i index) (Some v)
-    agree SlotIndex.A v own = qualifies-same v (2 * i) all p.a (rw (first i) at (within 0 p.a At.here)) own
-    agree SlotIndex.B v own = qualifies-same v (2 * i + 1) all p.b (within 1 p.b (At.there At.here)) own
+    own : eqb p.operator p.operator ≡ true
+    own = eq-eqb p.operator p.operator refl
 
-pub verdicts-same : (ps : List Pair) → verdicts_by (note_all no_maxima (slots ps)) ps ≡ first_verdicts ps
+    agree : (index : SlotIndex) (v : ℕ) → numbered (by_index index p.a p.b) ≡ Some v
+        → qualifies_by (note_all no_maxima (numbers p.operator all)) (Some v) ≡ qualifies (numbers p.operator all) (place i index) (Some v)
+    agree SlotIndex.A v is =
+        let counts : number_for p.operator p p.a ≡ v = simp (own, is) in
+        let here : At 0 (numbers p.operator (p ∷ ps)) v = subst (λ (n : ℕ). At 0 (numbers p.operator (p ∷ ps)) n) counts At.here in
+        qualifies-same (2 * i) (numbers p.operator all) v (rw (first i) at (within p.operator 0 v here))
+    agree SlotIndex.B v is =
+        let counts : number_for p.operator p p.b ≡ v = simp (own, is) in
+        let here : At 1 (numbers p.operator (p ∷ ps)) v = subst (λ (n : ℕ). At 1 (numbers p.operator (p ∷ ps)) n) counts (At.there At.here) in
+        qualifies-same (2 * i + 1) (numbers p.operator all) v (within p.operator 1 v here)
+
+pub verdicts-same : (ps : List Pair) → operators_in_range true ps ≡ true → verdicts_by (note_pairs note_two no_counts ps) ps ≡ first_verdicts ps
 unfolding first_verdicts
-verdicts-same ps = verdicts-from (slots ps) 0 ps (λ j s at. subst (λ (k : ℕ). At k (slots ps) s) (from_first j) at)
+verdicts-same ps range = verdicts-from ps range 0 ps (λ o j v at. subst (λ (k : ℕ). At k (numbers o ps) v) (from_first j) at)
   where
     from_first : (j : ℕ) → j ≡ 2 * 0 + j
     from_first j = omega arith
@@ -92,25 +107,21 @@ verdicts-same ps = verdicts-from (slots ps) 0 ps (λ j s at. subst (λ (k : ℕ)
 count-first : (n : ℕ) (v : PairVerdict) (vs : List PairVerdict) → cond (in_flight v) (n + 1) n + candidates vs ≡ n + candidates (v ∷ vs)
 count-first n v vs = grind arith
 
-tallies-from : (m : Maxima) (t : Tally) (ps : List Pair)
-    → tallies m false t ps
+tallies-from : (c : Counts) (t : Tally) (ps : List Pair)
+    → tallies c false t ps
     ≡ record {
-      candidates = t.candidates + candidates (verdicts_by m ps);
+      candidates = t.candidates + candidates (verdicts_by c ps);
       page_had_candidate = t.page_had_candidate || any_candidate ps;
-      troubled = t.troubled || any_trouble (verdicts_by m ps);
-      refused = t.refused || any_refused (verdicts_by m ps);
+      troubled = t.troubled || any_trouble (verdicts_by c ps);
+      refused = t.refused || any_refused (verdicts_by c ps);
     }
-tallies-from m t [] = simp (add-zero, or-false)
-tallies-from m t (p ∷ ps) =
-    let v = pair_verdict (by_maxima m) (pair_case p) in
-    tallies-from m (tallied t false (pair_case p) v) ps ∙ simp (or_assoc, count-first)
+tallies-from c t [] = simp (add-zero, or-false)
+tallies-from c t (p ∷ ps) = tallies-from c (tallied t false (pair_case p) (verdict_by c p)) ps ∙ simp (or_assoc, count-first)
 
-pub tally-same : (m : Maxima) (ps : List Pair) → tallies m true no_tally ps ≡ first_tally ps (verdicts_by m ps)
+pub tally-same : (c : Counts) (ps : List Pair) → tallies c true no_tally ps ≡ first_tally ps (verdicts_by c ps)
 unfolding first_tally
-tally-same m [] = refl
-tally-same m (p ∷ ps) =
-    let v = pair_verdict (by_maxima m) (pair_case p) in
-    tallies-from m (tallied no_tally true (pair_case p) v) ps ∙ rw (count-first, zero-add)
+tally-same c [] = refl
+tally-same c (p ∷ ps) = tallies-from c (tallied no_tally true (pair_case p) (verdict_by c p)) ps ∙ rw (count-first, zero-add)
 
 -- ---- the slot to heal
 

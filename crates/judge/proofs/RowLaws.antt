@@ -1,20 +1,20 @@
 -- What the passes leave of a row is its judgement, whatever the verdicts are kept in.
-use Rattle.std.proofs.Common.{◌≡◌, refl, ap, ◌∙◌, Bool, true, List, [], ◌∷◌, ◌++◌, ℕ, zero, suc, ◌+◌, ◌<◌, length, map, set, take, drop, arith, add-one, false, eqb, leb, slice_get, Option, Some, None, Result, Ok, OnOk, OnErr, subst}
+use Rattle.std.proofs.Common.{◌≡◌, refl, ap, ◌∙◌, Bool, true, ◌&&◌, List, [], ◌∷◌, ◌++◌, ℕ, zero, suc, ◌+◌, ◌<◌, length, map, set, take, drop, arith, add-one, false, eqb, leb, slice_get, Option, Some, None, Result, Ok, OnOk, OnErr, subst}
 use Rattle.std.specs.Option.{option_or}
 use Rattle.std.specs.List.{list_all}
 use Rattle.std.proofs.lemmas.List.{drop-set-lt, take_more_set}
 use Rattle.slot.specs.declared.slot.SlotIndex.{SlotIndex}
 use Rattle.judge.specs.declared.pairs.Pair.{Pair}
-use Rattle.judge.specs.declared.numbers.Maxima.{Maxima}
+use Rattle.judge.specs.declared.numbers.Counts.{Counts}
 use Rattle.judge.specs.declared.verdict.PairVerdict.{PairVerdict}
 use Rattle.judge.specs.declared.verdict.Tally.{Tally}
 use Rattle.judge.specs.declared.verdict.StoreRules.{StoreRules}
 use Rattle.judge.specs.declared.verdict.Judgement.{Judgement}
 use Rattle.judge.specs.declared.verdict.JudgeError.{JudgeError}
-use Rattle.judge.specs.Numbers.{slots}
-use Rattle.judge.specs.Maxima.{no_maxima, note_all}
+use Rattle.judge.specs.Operators.{operators_in_range}
+use Rattle.judge.specs.Maxima.{no_counts, note_two, note_pairs}
 use Rattle.judge.specs.Verdict.{in_flight}
-use Rattle.judge.specs.Judge.{demoted, pair_heal, first_verdicts, first_tally, volume_verdict, store_rules, last_verdicts, writable, row_rules, verdicts, judgement, unless, left}
+use Rattle.judge.specs.Judge.{demoted, pair_heal, first_verdicts, first_tally, volume_verdict, store_rules, last_verdicts, writable, row_rules, verdicts, judgement, error, unless, left}
 use Rattle.judge.specs.Owners.{owners, any_two_differ}
 use Rattle.judge.specs.Passes.{verdicts_by, no_tally, tallies, heals}
 use Rattle.judge.specs.Same.{mark}
@@ -24,6 +24,17 @@ use Rattle.judge.proofs.PassLaws.{verdicts-same, tally-same, heals-same}
 pub answered : {A : Type 0} (e : Option JudgeError) (x m : A) → Ok m ≡ unless e x → (e ≡ None) × (m ≡ x)
 answered None x m is = (refl, cc)
 answered (Some e) x m is = (cc, cc)
+
+pub answer : {A : Type 0} (e : Option JudgeError) (x y : A) → ◌≡◌ {A = Result (Unit {0}) JudgeError} (Ok tt) (unless e tt) → x ≡ y → Ok x ≡ unless e y
+answer None x y none same = ap Ok same
+answer (Some e) x y none same = cc
+
+-- Then all values are in range.
+pub in-range : (empty over whole fits within : Bool) → error empty over whole fits within ≡ None → within ≡ true
+in-range empty over whole fits within none = grind (arith, none)
+
+pub operators-known : (clean parts operators : Bool) → clean && (parts && operators) ≡ true → operators ≡ true
+operators-known clean parts operators is = grind (arith, is)
 
 head-is : (vs : List PairVerdict) (v : PairVerdict) → slice_get vs 0 ≡ Some v → v ≡ volume_verdict vs
 head-is [] v is = cc
@@ -84,14 +95,15 @@ module _ {C : Type 0} (cell : PairVerdict → C) (read : C → PairVerdict) wher
   pub written-hold : ((v : PairVerdict) → read (cell v) ≡ v) → (cs : List C) (vs : List PairVerdict) → cs ≡ map cell vs → AllHold cs
   written-hold back cs vs is = rw (is, read-all cell read back vs)
 
--- The passes by the two highest numbers are the definition's.
-module _ (ps : List Pair) (clean : Bool) {m : Maxima} {t : Tally} {volume : PairVerdict} {rules : StoreRules}
-    (m-is : m ≡ note_all no_maxima (slots ps))
+-- The passes by the two highest numbers of each operator are the definition's.
+module _ (ps : List Pair) (clean : Bool) {m : Counts} {t : Tally} {volume : PairVerdict} {rules : StoreRules}
+    (range : operators_in_range true ps ≡ true)
+    (m-is : m ≡ note_pairs note_two no_counts ps)
     (t-is : t ≡ tallies m true no_tally ps)
     (volume-is : volume ≡ volume_verdict (verdicts_by m ps))
     (rules-is : rules ≡ store_rules clean t volume) where
   by_definition : verdicts_by m ps ≡ first_verdicts ps
-  by_definition = ap (λ (n : Maxima). verdicts_by n ps) m-is ∙ verdicts-same ps
+  by_definition = ap (λ (c : Counts). verdicts_by c ps) m-is ∙ verdicts-same ps range
 
   tally : t ≡ first_tally ps (first_verdicts ps)
   tally = t-is ∙ tally-same m ps ∙ ap (first_tally ps) by_definition
@@ -112,8 +124,9 @@ module _ (ps : List Pair) (clean : Bool) {m : Maxima} {t : Tally} {volume : Pair
   heal_judged = rw (heals-same, last-verdicts)
 
 module _ {C : Type 0} (cell : PairVerdict → C) (read : C → PairVerdict) (back : (v : PairVerdict) → read (cell v) ≡ v) where
-  module _ (ps : List Pair) (clean : Bool) {m : Maxima} {t : Tally} {firsts lasts : List C} {volume : PairVerdict} {rules : StoreRules}
-      (m-is : m ≡ note_all no_maxima (slots ps))
+  module _ (ps : List Pair) (clean : Bool) {m : Counts} {t : Tally} {firsts lasts : List C} {volume : PairVerdict} {rules : StoreRules}
+      (range : operators_in_range true ps ≡ true)
+      (m-is : m ≡ note_pairs note_two no_counts ps)
       (t-is : t ≡ tallies m true no_tally ps)
       (firsts-are : firsts ≡ map cell (verdicts_by m ps))
       (volume-at : slice_get (map read firsts) 0 ≡ Some volume)
@@ -126,7 +139,7 @@ module _ {C : Type 0} (cell : PairVerdict → C) (read : C → PairVerdict) (bac
     volume-is = head-is (map read firsts) volume volume-at ∙ ap volume_verdict first
 
     pub cells-judged : lasts ≡ map cell (verdicts ps clean)
-    cells-judged = lasts-are ∙ rw (first, last-verdicts ps clean m-is t-is volume-is rules-is)
+    cells-judged = lasts-are ∙ rw (first, last-verdicts ps clean range m-is t-is volume-is rules-is)
 
     pub row-judged : {h : Option (ℕ × SlotIndex)} {w differ : Bool} {last : PairVerdict}
         → h ≡ heals 0 None (last_verdicts rules.volume_demote rules.page_demote (map read firsts))
@@ -146,11 +159,11 @@ module _ {C : Type 0} (cell : PairVerdict → C) (read : C → PairVerdict) (bac
           h-is,
           heals-same,
           first,
-          last-verdicts ps clean m-is t-is volume-is rules-is,
+          last-verdicts ps clean range m-is t-is volume-is rules-is,
           last-one,
-          volume-first ps clean m-is t-is volume-is rules-is,
-          row-rules ps clean m-is t-is volume-is rules-is,
-          tally ps clean m-is t-is volume-is rules-is,
+          volume-first ps clean range m-is t-is volume-is rules-is,
+          row-rules ps clean range m-is t-is volume-is rules-is,
+          tally ps clean range m-is t-is volume-is rules-is,
         )
 
 -- What is left of what was lent: what was done, or what was there where there is an error.

@@ -1,21 +1,21 @@
 -- The frames filled from a row of pairs stand for that row, so that the judge over them judges it: there is an error only for an empty row,
 -- another room than the verdicts need, and a mark out of range.
-use Rattle.std.proofs.Common.{◌≡◌, refl, sym, ap, ap₂, ◌∙◌, Bool, true, ◌&&◌, List, [], ◌∷◌, ◌++◌, ℕ, ◌*◌, arith, eqb, leb, ltb, length, map, length-append, take_at, drop_at, append-nil, Option, Some, None}
-use Rattle.std.proofs.Math.Bool.{and-true}
+use Rattle.std.proofs.Common.{◌≡◌, refl, sym, ap, ap₂, ◌∙◌, Bool, true, ◌&&◌, List, [], ◌∷◌, ◌++◌, ℕ, ◌*◌, arith, eqb, leb, ltb, length, map, length-append, take_at, drop_at, Option, Some, None}
 use Rattle.std.specs.List.{list_all}
 use Rattle.std.specs.Simd.{first_chunks}
-use Rattle.codec.proofs.ReadLaws.{start, onward}
+use Rattle.codec.proofs.ReadLaws.{Rest, start, onward}
 use Rattle.judge.specs.declared.pairs.Pair.{Pair}
 use Rattle.judge.specs.declared.part.SlotPart.{SlotPart}
 use Rattle.judge.specs.declared.verdict.PairVerdict.{PairVerdict}
 use Rattle.judge.specs.declared.verdict.JudgeError.{JudgeError}
 use Rattle.judge.specs.declared.records.PairRead.{PairRead}
 use Rattle.judge.specs.Part.{part_width, part_bytes, part_at, part_shown, is_in_range}
+use Rattle.judge.specs.Operators.{operators_in_range}
 use Rattle.judge.specs.Judge.{verdicts, judgement, most_pairs, error, unless, left}
 use Rattle.judge.specs.Records.{pair_read, records_error, judge_records, records_left}
-use Rattle.judge.specs.Frames.{frame_width, verdict_width, pair_from, pair_in_range, pair_count, frames, row, row_bytes, frames_error, judge_frames, frames_left}
+use Rattle.judge.specs.Frames.{operator_place, frame_width, verdict_width, operator_in, pair_from, pair_in_range, pair_count, frames, row, row_bytes, frames_error, judge_frames, frames_left}
 use Rattle.judge.specs.Same.{filled, Framed, part_read, frame_of, frames_of, pairs_of, Fits, AllFit, mark, SameJudge, IgnoredFields}
-use Rattle.judge.proofs.PartLaws.{part-shows, part-in-range, filled-fits, length_part, part-read}
+use Rattle.judge.proofs.PartLaws.{part-shows, part-in-range, filled-fits, length_part, byte-read, part-read}
 use Rattle.judge.proofs.RowLaws.{flag-back}
 use Rattle.judge.proofs.FrameLaws.{same_test, whole}
 
@@ -29,17 +29,23 @@ module _ (f : Framed) (fits : Fits f) where
   b = filled f.rest_b (part_read f.pair.b)
 
   pub a-read : part_at (frame_of f) 0 ≡ a
-  a-read = part-read (frame_of f) (part_bytes b) 0 a (filled-fits _ _ fits.a fits.rest_a) (start _ _ refl)
+  a-read = part-read (frame_of f) (part_bytes b ++ f.pair.operator ∷ []) 0 a (filled-fits _ _ fits.a fits.rest_a) (start _ _ refl)
+
+  after_a : Rest (frame_of f) part_width (part_bytes b ++ f.pair.operator ∷ [])
+  after_a = onward part_width (part_bytes a) (part_bytes b ++ f.pair.operator ∷ []) (length_part a) (start _ _ refl)
 
   pub b-read : part_at (frame_of f) part_width ≡ b
-  b-read =
-      part-read (frame_of f) [] part_width b (filled-fits _ _ fits.b fits.rest_b)
-      (onward part_width (part_bytes a) (part_bytes b ++ []) (length_part a) (start _ _ (ap (λ (t : List ℕ). part_bytes a ++ t) (sym (append-nil (part_bytes b))))))
+  b-read = part-read (frame_of f) (f.pair.operator ∷ []) part_width b (filled-fits _ _ fits.b fits.rest_b) after_a
+
+  pub operator-read : operator_in (frame_of f) ≡ f.pair.operator
+  operator-read =
+      byte-read (frame_of f) [] operator_place f.pair.operator (onward part_width (part_bytes b) (f.pair.operator ∷ []) (length_part b) after_a)
 
   frame-pair : pair_from (frame_of f) ≡ pair_read f.pair
   frame-pair =
-      ap₂ {C = Pair} (λ x y. record { a = x; b = y }) (ap part_shown a-read ∙ part-shows f.rest_a f.pair.a.status f.pair.a.facts)
-      (ap part_shown b-read ∙ part-shows f.rest_b f.pair.b.status f.pair.b.facts)
+      let a_is = ap part_shown a-read ∙ part-shows f.rest_a f.pair.a.status f.pair.a.facts in
+      let b_is = ap part_shown b-read ∙ part-shows f.rest_b f.pair.b.status f.pair.b.facts in
+      rw (a_is, b_is, operator-read)
 
   frame-in-range : pair_in_range (frame_of f) ≡ true
   frame-in-range =
@@ -77,7 +83,9 @@ length-pairs (f ∷ fs) = simp (length-pairs fs)
 
 -- The error of so many pairs.
 abbrev pub framed_error : List PairRead → ℕ → ℕ → Option JudgeError
-framed_error ps clean room = error (eqb (length ps) 0) (ltb most_pairs (length ps)) true (eqb room (length ps * verdict_width)) (leb clean 1)
+framed_error ps clean room =
+    error (eqb (length ps) 0) (ltb most_pairs (length ps)) true (eqb room (length ps * verdict_width))
+    (leb clean 1 && operators_in_range true (map pair_read ps))
 
 pub count-is : (fs : List Framed) → pair_count (frames_of fs) ≡ length fs
 count-is fs = omega (arith, length-frames fs)
@@ -93,7 +101,8 @@ module _ (fs : List Framed) (fits : AllFit fs) where
   error-is clean room =
       whole (frames_of fs) clean room (omega (arith, length-frames fs))
       ∙ ap₂ (λ (n : ℕ) (within : Bool). error (eqb n 0) (ltb most_pairs n) true (eqb room (n * verdict_width)) within) (count-is fs ∙ sym (length-pairs fs))
-      (ap (λ x. leb clean 1 && x) (ap (list_all pair_in_range) (frames-are fs) ∙ all-in-range fs fits) ∙ and-true (leb clean 1))
+      (ap₂ (λ (parts : Bool) (row : List Pair). leb clean 1 && (parts && operators_in_range true row))
+      (ap (list_all pair_in_range) (frames-are fs) ∙ all-in-range fs fits) (row-is fs fits))
 
   pub answer-is : (clean room : ℕ)
       → judge_frames (frames_of fs) clean room

@@ -10,7 +10,7 @@ use Rattle.judge.specs.declared.verdict.Judgement.{Judgement}
 use Rattle.judge.specs.declared.verdict.JudgeError.{JudgeError}
 use Rattle.judge.specs.Part.{part_width, part_at}
 use Rattle.judge.specs.Judge.{verdicts, judgement}
-use Rattle.judge.specs.Frames.{frames, judge_frames, frames_left}
+use Rattle.judge.specs.Frames.{operator_in, frames, judge_frames, frames_left}
 
 -- ---- rows of pairs
 
@@ -20,7 +20,7 @@ with_owner o (Shown.Valid v) = Shown.Valid (record v { owner_generation = o })
 with_owner o s = s
 
 abbrev pub without_owners : Pair → Pair
-without_owners p = record { a = with_owner 0 p.a; b = with_owner 0 p.b }
+without_owners p = record p { a = with_owner 0 p.a; b = with_owner 0 p.b }
 
 -- A judgement without whether owners differ.
 abbrev pub without_differ : Judgement → Judgement
@@ -59,9 +59,9 @@ LosersUnread =
 abbrev pub part_without_owner : SlotPart → SlotPart
 part_without_owner p = record { code = p.code; facts = p.facts; version = record p.version { owner_generation = 0 } }
 
--- A frame's parts without their owner generations.
-abbrev pub parts_without_owners : List ℕ → SlotPart × SlotPart
-parts_without_owners s = (part_without_owner (part_at s 0), part_without_owner (part_at s part_width))
+-- A frame's parts without their owner generations, and its operator.
+abbrev pub parts_without_owners : List ℕ → SlotPart × SlotPart × ℕ
+parts_without_owners s = (part_without_owner (part_at s 0), part_without_owner (part_at s part_width), operator_in s)
 
 abbrev pub answer_without_differ : Result Judgement JudgeError → Result Judgement JudgeError
 answer_without_differ (Ok j) = Ok (without_differ j)

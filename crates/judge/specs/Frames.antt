@@ -1,6 +1,6 @@
--- The judge over frames in bytes (docs/FORMAT.md, "Frames", "The store verdict" and "Refusals"). A pair's frame: the part of slot A, then
--- that of slot B.
-use Rattle.std.specs.Prelude.{Bool, ◌&&◌, List, [], ◌∷◌, ℕ, ◌*◌, ◌/◌, ◌%◌, ◌==◌, nat_le, nat_lt, length, get_or, map, flat_map, Option, Result}
+-- The judge over frames in bytes (docs/FORMAT.md, "Frames", "The store verdict" and "Refusals"). A pair's frame: the part of slot A, that
+-- of slot B, and the pair's operator.
+use Rattle.std.specs.Prelude.{Bool, true, ◌&&◌, List, [], ◌∷◌, ℕ, ◌+◌, ◌*◌, ◌/◌, ◌%◌, ◌==◌, nat_le, nat_lt, length, get_or, map, flat_map, Option, Result}
 use Rattle.std.specs.List.{list_all}
 use Rattle.std.specs.Simd.{first_chunks}
 use Rattle.slot.specs.declared.slot.SlotIndex.{SlotIndex}
@@ -12,18 +12,26 @@ use Rattle.judge.specs.declared.verdict.JudgeError.{JudgeError}
 use Rattle.judge.specs.Part.{part_width, part_at, part_shown, is_in_range}
 use Rattle.slot.specs.Numbers.{choice_number}
 use Rattle.judge.specs.Values.{standing_number, slot_verdict_number, standing_from, choice_from, slot_verdict_from}
-use Rattle.judge.specs.Numbers.{slots}
+use Rattle.judge.specs.Operators.{operators_in_range}
+use Rattle.judge.specs.Numbers.{numbers}
 use Rattle.judge.specs.Maxima.{no_maxima, note_all}
 use Rattle.judge.specs.Judge.{verdicts, judgement, most_pairs, error, unless, left}
 
 -- ---- a pair's frame
 
+abbrev pub operator_place : ℕ
+operator_place = 2 * part_width
+
 abbrev pub frame_width : ℕ
-frame_width = 2 * part_width
+frame_width = operator_place + 1
+
+abbrev pub operator_in : List ℕ → ℕ
+operator_in s = get_or s operator_place 0
 
 abbrev pub pair_from : List ℕ → Pair
-pair_from s = record { a = part_shown (part_at s 0); b = part_shown (part_at s part_width) }
+pair_from s = record { a = part_shown (part_at s 0); b = part_shown (part_at s part_width); operator = operator_in s }
 
+-- Status and facts of both slots.
 abbrev pub pair_in_range : List ℕ → Bool
 pair_in_range s = is_in_range (part_at s 0) && is_in_range (part_at s part_width)
 
@@ -36,6 +44,10 @@ frames s = first_chunks frame_width (pair_count s) s
 
 abbrev pub row : List ℕ → List Pair
 row s = map pair_from (frames s)
+
+-- Their values are in range.
+abbrev pub frames_in_range : List ℕ → Bool
+frames_in_range s = list_all pair_in_range (frames s) && operators_in_range true (row s)
 
 -- ---- a pair's verdict
 
@@ -69,7 +81,7 @@ row_bytes vs = flat_map verdict_bytes vs
 unfoldable pub frames_error : List ℕ → ℕ → ℕ → Option JudgeError
 frames_error s clean room =
     error (length s == 0) (nat_lt (most_pairs * frame_width) (length s)) (length s % frame_width == 0) (room == pair_count s * verdict_width)
-    (nat_le clean 1 && list_all pair_in_range (frames s))
+    (nat_le clean 1 && frames_in_range s)
 
 -- What it answers,
 unfoldable pub judge_frames : List ℕ → ℕ → ℕ → Result Judgement JudgeError
@@ -85,9 +97,9 @@ frames_left s clean out = left (frames_error s clean (length out)) (row_bytes (v
 abbrev pub refusal : List ℕ → ℕ → Option JudgeError
 refusal s clean = frames_error s clean (pair_count s * verdict_width)
 
--- The two highest numbers, and the slot that is healed.
-abbrev pub frames_maxima : List ℕ → ℕ → Result Maxima JudgeError
-frames_maxima s clean = unless (refusal s clean) (note_all no_maxima (slots (row s)))
+-- The two highest numbers of an operator, and the slot that is healed.
+abbrev pub frames_maxima : List ℕ → ℕ → ℕ → Result Maxima JudgeError
+frames_maxima s clean o = unless (refusal s clean) (note_all no_maxima (numbers o (row s)))
 
 abbrev pub frames_heal : List ℕ → ℕ → Result (Option (ℕ × SlotIndex)) JudgeError
 frames_heal s clean = unless (refusal s clean) (judgement (row s) (clean == 1)).heal

@@ -3,10 +3,9 @@
 use Rattle.std.specs.Prelude.{◌≡◌, Bool, false, not, ◌&&◌, ◌||◌, List, [], ◌∷◌, ℕ, zero, suc, ◌+◌, ◌==◌, if◌then◌else◌, Option, Some, None, Result, Ok, Err}
 use Rattle.std.specs.Option.{option_or}
 use Rattle.slot.specs.declared.slot.SlotIndex.{SlotIndex}
-use Rattle.judge.specs.declared.pairs.Shown.{Shown}
 use Rattle.judge.specs.declared.pairs.Pair.{Pair}
 use Rattle.judge.specs.Pairs.{pair_case, has_candidate}
-use Rattle.judge.specs.Numbers.{slots, place, qualifies}
+use Rattle.judge.specs.Numbers.{numbers, place, qualifies}
 use Rattle.judge.specs.declared.verdict.SlotVerdict.{SlotVerdict}
 use Rattle.judge.specs.declared.verdict.Standing.{Standing}
 use Rattle.judge.specs.declared.verdict.PairVerdict.{PairVerdict}
@@ -19,14 +18,14 @@ use Rattle.judge.specs.Verdict.{by_index, no_winner, pair_verdict, is_in_flight,
 
 -- ---- the first pass
 
--- The pairs from the ith on, among all slots of the store.
-abbrev pub verdicts_from : List Shown → ℕ → List Pair → List PairVerdict
+-- The pairs from the ith on, among all pairs of the store.
+abbrev pub verdicts_from : List Pair → ℕ → List Pair → List PairVerdict
 verdicts_from all i [] = []
 verdicts_from all i (p ∷ ps) =
-    pair_verdict (λ index. qualifies all (place i index)) (pair_case p) ∷ verdicts_from all (suc i) ps
+    pair_verdict (λ index. qualifies (numbers p.operator all) (place i index)) (pair_case p) ∷ verdicts_from all (suc i) ps
 
 unfoldable pub first_verdicts : List Pair → List PairVerdict
-first_verdicts ps = verdicts_from (slots ps) 0 ps
+first_verdicts ps = verdicts_from ps 0 ps
 
 -- The volume record's verdict.
 abbrev pub volume_verdict : List PairVerdict → PairVerdict

@@ -1,9 +1,12 @@
--- The rule by which the code finds the highest of the other numbers (docs/FORMAT.md, "The store verdict"): the two highest of all. So one
--- pass over the slots answers for every candidate. That it gives the same as `qualifies` of Numbers.antt is a law (proofs/NumberLaws.antt).
-use Rattle.std.specs.Prelude.{Bool, true, List, [], ◌∷◌, ℕ, ◌+◌, ◌==◌, max, min, if◌then◌else◌, Option, Some, None}
+-- The rule by which the code finds the highest of the other numbers (docs/FORMAT.md, "The store verdict"): for each operator the two
+-- highest of all. So one pass over the pairs answers for every candidate. That it gives the same as `qualifies` of Numbers.antt is a law
+-- (proofs/NumberLaws.antt).
+use Rattle.std.specs.Prelude.{Bool, true, List, [], ◌∷◌, ℕ, ◌+◌, ◌==◌, max, min, if◌then◌else◌, get_or, set, replicate, Option, Some, None}
 use Rattle.slot.specs.declared.slot.SlotIndex.{SlotIndex}
-use Rattle.judge.specs.declared.pairs.Shown.{Shown}
+use Rattle.judge.specs.declared.pairs.Pair.{Pair}
 use Rattle.judge.specs.declared.numbers.Maxima.{Maxima}
+use Rattle.judge.specs.declared.numbers.Counts.{Counts}
+use Rattle.judge.specs.declared.numbers.Own.{Own}
 use Rattle.judge.specs.Pairs.{numbered}
 use Rattle.judge.specs.Numbers.{number}
 
@@ -14,12 +17,35 @@ no_maxima = record { first = 0; second = 0 }
 abbrev pub note : Maxima → ℕ → Maxima
 note m v = record { first = max m.first v; second = max m.second (min m.first v) }
 
-abbrev pub noted : Maxima → Shown → Maxima
-noted m s = note m (number (numbered s))
-
-abbrev pub note_all : Maxima → List Shown → Maxima
+abbrev pub note_all : Maxima → List ℕ → Maxima
 note_all m [] = m
-note_all m (s ∷ ss) = note_all (noted m s) ss
+note_all m (v ∷ vs) = note_all (note m v) vs
+
+-- ---- of each operator, and of one
+
+abbrev pub no_counts : Counts
+no_counts = record { maxima = replicate 16 no_maxima }
+
+abbrev pub count_of : Counts → ℕ → Maxima
+count_of c o = get_or c.maxima o no_maxima
+
+abbrev pub no_own : ℕ → Own
+no_own o = record { operator = o; maxima = no_maxima }
+
+-- Both numbers of a pair are noted for its operator,
+abbrev pub note_two : Counts → ℕ → ℕ → ℕ → Counts
+note_two c o x y = record { maxima = set c.maxima o (note (note (count_of c o) x) y) }
+
+-- or where that is this one.
+abbrev pub note_own : Own → ℕ → ℕ → ℕ → Own
+note_own c o x y = if o == c.operator then record { operator = c.operator; maxima = note (note c.maxima x) y } else c
+
+-- Pair by pair.
+abbrev pub note_pairs : {C : Type 0} → (C → ℕ → ℕ → ℕ → C) → C → List Pair → C
+note_pairs note c [] = c
+note_pairs note c (p ∷ ps) = note_pairs note (note c p.operator (number (numbered p.a)) (number (numbered p.b))) ps
+
+-- ---- the rule
 
 -- The highest but for one slot that holds v.
 abbrev pub others_max : Maxima → ℕ → ℕ

@@ -1,21 +1,24 @@
--- The passes as the code makes them (docs/FORMAT.md, "The store verdict"), a pair at a time: the first verdicts by the two highest numbers,
--- the tally so far, and the slot to heal found so far. That they give the same as the definition is a law (proofs/PassLaws.antt).
-use Rattle.std.specs.Prelude.{Bool, false, not, ◌&&◌, ◌||◌, List, [], ◌∷◌, ℕ, ◌+◌, if◌then◌else◌, Option}
+-- The passes as the code makes them (docs/FORMAT.md, "The store verdict"), a pair at a time: the first verdicts by the two highest numbers
+-- of the pair's operator, the tally so far, and the slot to heal found so far. That they give the same as the definition is a law
+-- (proofs/PassLaws.antt).
+use Rattle.std.specs.Prelude.{Bool, false, not, ◌&&◌, ◌||◌, List, [], ◌∷◌, ℕ, ◌+◌, if◌then◌else◌, map, Option}
 use Rattle.std.specs.Option.{option_or}
 use Rattle.slot.specs.declared.slot.SlotIndex.{SlotIndex}
 use Rattle.judge.specs.declared.pairs.Pair.{Pair}
 use Rattle.judge.specs.declared.pairs.PairCase.{PairCase}
-use Rattle.judge.specs.declared.numbers.Maxima.{Maxima}
+use Rattle.judge.specs.declared.numbers.Counts.{Counts}
 use Rattle.judge.specs.Pairs.{pair_case, has_candidate}
-use Rattle.judge.specs.Maxima.{by_maxima}
+use Rattle.judge.specs.Maxima.{count_of, by_maxima}
 use Rattle.judge.specs.declared.verdict.PairVerdict.{PairVerdict}
 use Rattle.judge.specs.declared.verdict.Tally.{Tally}
 use Rattle.judge.specs.Verdict.{pair_verdict, in_flight, is_confirmed, is_refused}
 use Rattle.judge.specs.Judge.{pair_heal}
 
-abbrev pub verdicts_by : Maxima → List Pair → List PairVerdict
-verdicts_by m [] = []
-verdicts_by m (p ∷ ps) = pair_verdict (by_maxima m) (pair_case p) ∷ verdicts_by m ps
+abbrev pub verdict_by : Counts → Pair → PairVerdict
+verdict_by c p = pair_verdict (by_maxima (count_of c p.operator)) (pair_case p)
+
+abbrev pub verdicts_by : Counts → List Pair → List PairVerdict
+verdicts_by c ps = map (verdict_by c) ps
 
 abbrev pub no_tally : Tally
 no_tally = record { candidates = 0; page_had_candidate = false; troubled = false; refused = false }
@@ -31,9 +34,9 @@ tallied t volume case v =
     }
 
 -- The tally with the pairs of a row; the flag says whether its first one is the volume record.
-abbrev pub tallies : Maxima → Bool → Tally → List Pair → Tally
-tallies m volume t [] = t
-tallies m volume t (p ∷ ps) = tallies m false (tallied t volume (pair_case p) (pair_verdict (by_maxima m) (pair_case p))) ps
+abbrev pub tallies : Counts → Bool → Tally → List Pair → Tally
+tallies c volume t [] = t
+tallies c volume t (p ∷ ps) = tallies c false (tallied t volume (pair_case p) (verdict_by c p)) ps
 
 -- The slot found with the pairs from the ith on, after what was found before.
 abbrev pub heals : ℕ → Option (ℕ × SlotIndex) → List PairVerdict → Option (ℕ × SlotIndex)

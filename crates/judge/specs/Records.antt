@@ -11,6 +11,7 @@ use Rattle.judge.specs.declared.verdict.JudgeError.{JudgeError}
 use Rattle.judge.specs.declared.records.SlotRead.{SlotRead}
 use Rattle.judge.specs.declared.records.PairRead.{PairRead}
 use Rattle.judge.specs.Part.{version_of_info}
+use Rattle.judge.specs.Operators.{operators_in_range}
 use Rattle.judge.specs.Judge.{verdicts, judgement, most_pairs, error, unless, left}
 
 -- ---- what the judge is told of a slot, and of a pair
@@ -32,13 +33,14 @@ abbrev pub shown_read : SlotRead → Shown
 shown_read s = shown_of s.status s.facts
 
 abbrev pub pair_read : PairRead → Pair
-pair_read p = record { a = shown_read p.a; b = shown_read p.b }
+pair_read p = record { a = shown_read p.a; b = shown_read p.b; operator = p.operator }
 
 -- ---- the judge
 
 -- The error, where so many verdicts are lent.
 abbrev pub records_error : List PairRead → ℕ → Option JudgeError
-records_error ps room = error (length ps == 0) (nat_lt most_pairs (length ps)) true (room == length ps) true
+records_error ps room =
+    error (length ps == 0) (nat_lt most_pairs (length ps)) true (room == length ps) (operators_in_range true (map pair_read ps))
 
 -- What it answers,
 unfoldable pub judge_records : List PairRead → Bool → ℕ → Result Judgement JudgeError

@@ -67,7 +67,7 @@ abbrev pub part_read : SlotRead → SlotPart
 part_read s = part_of s.status s.facts
 
 abbrev pub frame_of : Framed → List ℕ
-frame_of f = part_bytes (filled f.rest_a (part_read f.pair.a)) ++ part_bytes (filled f.rest_b (part_read f.pair.b))
+frame_of f = part_bytes (filled f.rest_a (part_read f.pair.a)) ++ (part_bytes (filled f.rest_b (part_read f.pair.b)) ++ f.pair.operator ∷ [])
 
 abbrev pub frames_of : List Framed → List ℕ
 frames_of fs = flat_map frame_of fs

@@ -1,6 +1,6 @@
 // The judge over frames in bytes, as a host hands them over.
 //
-// A pair's frame has 68 bytes: the part of slot A, then that of slot B (part).
+// A pair's frame has 69 bytes: the part of slot A, that of slot B (part), and the pair's operator.
 //
 // | Verdict, 4 bytes a pair | Field |
 // |---|---|
@@ -9,7 +9,7 @@
 // | 2, 3 | A, B: 0 Winner, 1 Nothing, 2 OlderDamaged, 3 InFlight, 4 Damage |
 ghost use Rattle.std.specs.Prelude.{◌≡◌, ◌*◌, ◌==◌, length};
 ghost use Rattle.judge.specs.Part.{part_width, part_at};
-ghost use Rattle.judge.specs.Frames.{verdict_width, verdict_bytes, verdict_from, verdict_cells, pair_from, pair_in_range, judge_frames, frames_left, frames_maxima, frames_heal};
+ghost use Rattle.judge.specs.Frames.{verdict_width, verdict_bytes, verdict_from, verdict_cells, operator_in, pair_from, pair_in_range, judge_frames, frames_left, frames_maxima, frames_heal};
 ghost use Rattle.judge.specs.Alike.{FramesAside};
 ghost use Rattle.judge.specs.Examples.{JudgeExamples};
 ghost use Rattle.judge.specs.Table.{Table};
@@ -23,8 +23,11 @@ use crate::verdict::{JudgeError, Judgement, PairVerdict, SlotVerdict, Standing, 
 use slot::numbers::choice_number;
 use slot::slot::SlotIndex;
 
-/// The width of a pair's frame,
-pub const FRAME: usize = 2 * PART;
+/// The place of the operator in a pair's frame,
+pub const OPERATOR: usize = 2 * PART;
+
+/// the width of the frame,
+pub const FRAME: usize = OPERATOR + 1;
 
 /// and of its verdict.
 pub const VERDICT: usize = 4;
@@ -51,7 +54,15 @@ pub fn parts(frame: &[u8; FRAME]) -> (SlotPart, SlotPart)
     (SlotPart::read(frame, 0), SlotPart::read(frame, PART))
 }
 
-// whether their values are in range,
+// the pair's operator,
+#[inline(always)]
+pub fn operator(frame: &[u8; FRAME]) -> u8
+    ensures { result ≡ operator_in frame.now }
+{
+    frame[OPERATOR]
+}
+
+// whether the parts' values are in range,
 #[inline(always)]
 pub fn is_in_range(frame: &[u8; FRAME]) -> bool
     ensures { result ≡ pair_in_range frame.now }
@@ -60,7 +71,7 @@ pub fn is_in_range(frame: &[u8; FRAME]) -> bool
     a.is_in_range() && b.is_in_range()
 }
 
-// and what they show.
+// and what the pair shows.
 #[inline(always)]
 pub fn shown(frame: &[u8; FRAME]) -> Pair
     ensures { result ≡ pair_from frame.now }
@@ -69,6 +80,7 @@ pub fn shown(frame: &[u8; FRAME]) -> Pair
     Pair {
         a: a.shown(),
         b: b.shown(),
+        operator: operator(frame),
     }
 }
 
@@ -79,6 +91,11 @@ impl ReadPair for [u8; FRAME] {
 
     fn is_in_range(&self) -> bool {
         is_in_range(self)
+    }
+
+    #[inline(always)]
+    fn operator(&self) -> u8 {
+        operator(self)
     }
 
     fn numbers(&self) -> (u64, u64) {
@@ -157,21 +174,20 @@ pub fn judge(frames: &[u8], clean: u8, out: &mut [u8]) -> Result<Judgement, Judg
     answer
 }
 
-// The highest numbers of frames that the judge does not refuse.
-pub fn maxima(frames: &[u8], clean: u8) -> Result<Maxima, JudgeError>
-    ensures { result ≡ frames_maxima frames.now clean }
+// The highest numbers of an operator, in frames that the judge does not refuse.
+pub fn maxima(frames: &[u8], clean: u8, operator: u8) -> Result<Maxima, JudgeError>
+    ensures { result ≡ frames_maxima frames.now clean operator }
 {
     let (pairs, rest) = frames.as_chunks::<FRAME>();
-    crate::row::admit(pairs, !rest.is_empty(), clean, true)
+    crate::row::maxima(pairs, !rest.is_empty(), clean, operator)
 }
 
 // The slot of such frames that the judge names for healing, and its pair.
 pub fn heal(frames: &[u8], clean: u8) -> Result<Option<(usize, SlotIndex)>, JudgeError>
     ensures { result ≡ frames_heal frames.now clean }
 {
-    let m = maxima(frames, clean)?;
-    let (pairs, _) = frames.as_chunks::<FRAME>();
-    Ok(crate::row::heal(pairs, m, clean == 1))
+    let (pairs, rest) = frames.as_chunks::<FRAME>();
+    crate::row::heal(pairs, !rest.is_empty(), clean)
 }
 
 // Does nothing: its contract is that frames which differ in owner generations alone are judged alike, but for whether the winners' differ.

@@ -7,6 +7,7 @@
 
 pub mod frames;
 pub mod numbers;
+pub mod operators;
 pub mod pairs;
 pub mod part;
 pub mod records;

@@ -32,11 +32,14 @@ pub enum Shown {
     Other,
 }
 
-// Both slots of one pair. Of its own beside `PairRead`, whose slots are as they were read: one type over both would be no plainer.
+// Both slots of one pair, and its operator. Of its own beside `PairRead`, whose slots are as they were read: one type over both would be no
+// plainer.
 #[derive(Clone, Copy)]
 pub struct Pair {
     pub a: Shown,
     pub b: Shown,
+    // Whose records the pair holds: the caller's to know, stored in no slot.
+    pub operator: u8,
 }
 
 // The slot opposite a valid winner, before the rules of the whole store.

@@ -16,11 +16,13 @@ pub struct SlotRead {
     pub facts: Option<HeaderFacts>,
 }
 
-// Both slots of one pair. Of its own beside `Pair`, whose slots are as the judge is told of them: one type over both would be no plainer.
+// Both slots of one pair, and its operator. Of its own beside `Pair`, whose slots are as the judge is told of them: one type over both would
+// be no plainer.
 #[derive(Clone, Copy)]
 pub struct PairRead {
     pub a: SlotRead,
     pub b: SlotRead,
+    pub operator: u8,
 }
 
 impl SlotRead {
@@ -54,8 +56,13 @@ impl ReadPair for PairRead {
 
     ghost within = { λ p. true };
 
+    // Status and facts are of their types.
     fn is_in_range(&self) -> bool {
         true
+    }
+
+    fn operator(&self) -> u8 {
+        self.operator
     }
 
     fn numbers(&self) -> (u64, u64) {
@@ -66,6 +73,7 @@ impl ReadPair for PairRead {
         Pair {
             a: self.a.shown(),
             b: self.b.shown(),
+            operator: self.operator,
         }
     }
 

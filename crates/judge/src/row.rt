@@ -7,16 +7,18 @@ ghost use Rattle.std.specs.Borrow.{GName};
 ghost use Rattle.std.specs.Int.{from_bool};
 ghost use Rattle.judge.specs.declared.pairs.Pair.{Pair};
 ghost use Rattle.judge.specs.declared.verdict.PairVerdict.{PairVerdict};
-ghost use Rattle.judge.specs.Maxima.{no_maxima, note_all};
-ghost use Rattle.judge.specs.Pairs.{numbered};
-ghost use Rattle.judge.specs.Numbers.{number, slots};
+ghost use Rattle.judge.specs.Operators.{operators_in_range};
+ghost use Rattle.judge.specs.Maxima.{no_maxima, note_all, note_pairs};
+ghost use Rattle.judge.specs.Pairs.{numbered, pair_case};
+ghost use Rattle.judge.specs.Numbers.{number, numbers};
 ghost use Rattle.judge.specs.Verdict.{by_index};
 ghost use Rattle.judge.specs.Owners.{owner, owners, any_two_differ};
-ghost use Rattle.judge.specs.Passes.{verdicts_by, no_tally, tallies, heals};
+ghost use Rattle.judge.specs.Passes.{verdict_by, verdicts_by, no_tally, tallies, heals};
 ghost use Rattle.judge.specs.Judge.{volume_verdict, last_verdicts, judgement, verdicts, most_pairs, error, unless};
 
-use crate::numbers::Maxima;
-use crate::pairs::{Pair, Shown};
+use crate::numbers::{Counts, Maxima, Notes, Own};
+use crate::operators;
+use crate::pairs::{Pair, PairCase, Shown};
 use crate::verdict::{JudgeError, Judgement, MOST_PAIRS, PairVerdict, Standing, StoreRules, Tally};
 use slot::slot::SlotIndex;
 
@@ -26,9 +28,12 @@ pub(crate) trait ReadPair {
 
     ghost within: { Self → Bool };
 
-    // Whether its values are in range.
+    // Whether the values of its slots are in range.
     fn is_in_range(&self) -> bool
         ensures { result ≡ within self.now };
+
+    fn operator(&self) -> u8
+        ensures { result ≡ (shown self.now).operator };
 
     // The numbers that its slots count for, 0 where they are not numbered.
     fn numbers(&self) -> (u64, u64)
@@ -76,36 +81,46 @@ pub(crate) trait Verdicts {
     ghost reads_back: { (v : PairVerdict) → read (cell v) ≡ v };
 }
 
-// The highest numbers of the row, if all its values are in range.
-fn maxima<P: ReadPair>(pairs: &[P]) -> Option<Maxima>
-    ensures { result ≡ if list_all P.within pairs.now then Some (note_all no_maxima (slots (map P.shown pairs.now))) else None }
+// Whether all values of the row are in range; notes its numbers, all of them if they are.
+#[inline(always)]
+fn note<P: ReadPair, C: Notes>(pairs: &[P], notes: &mut C) -> bool
+    ensures range { result ≡ list_all P.within pairs.now && operators_in_range true (map P.shown pairs.now) }
+    ensures noted { result ≡ true → notes.new ≡ note_pairs C.noted notes.old (map P.shown pairs.now) }
 {
-    let mut m = Maxima::default();
-    for p in pairs {
-        if !p.is_in_range() {
-            return None;
+    for (i, p) in pairs.iter().enumerate() {
+        let operator = p.operator();
+        if !p.is_in_range() || !operators::is_in_range(i == 0, operator) {
+            return false;
         }
         let (a, b) = p.numbers();
-        m.note(a);
-        m.note(b);
+        notes.note(operator, a, b);
     }
-    Some(m)
+    true
+}
+
+// What a pair's slots show, and its first verdict.
+#[inline(always)]
+fn first<P: ReadPair>(p: &P, counts: &Counts) -> (PairCase, PairVerdict)
+    ensures { result ≡ (pair_case (P.shown p.now), verdict_by counts.now (P.shown p.now)) }
+{
+    let pair = p.pair();
+    let case = pair.case();
+    (case, PairVerdict::first(counts, pair.operator, case))
 }
 
 // The pairs and their highest numbers go side by side through the passes: a struct of both would be taken apart in each.
 //
 // Writes each pair's first verdict, and counts over them.
-fn first_pass<P: ReadPair, V: Verdicts>(pairs: &[P], m: Maxima, out: &mut V) -> Tally
+fn first_pass<P: ReadPair, V: Verdicts>(pairs: &[P], counts: &Counts, out: &mut V) -> Tally
     requires { length (V.cells out.old) ≡ length pairs.now }
     ensures room { length (V.cells out.new) ≡ length pairs.now }
-    ensures tally { result ≡ tallies m true no_tally (map P.shown pairs.now) }
-    ensures cells { V.cells out.new ≡ map V.cell (verdicts_by m (map P.shown pairs.now)) }
+    ensures tally { result ≡ tallies counts.now true no_tally (map P.shown pairs.now) }
+    ensures cells { V.cells out.new ≡ map V.cell (verdicts_by counts.now (map P.shown pairs.now)) }
     ensures place { V.place out.new ≡ V.place out.old }
 {
     let mut t = Tally::default();
     for (i, p) in pairs.iter().enumerate() {
-        let case = p.pair().case();
-        let v = PairVerdict::first(m, case);
+        let (case, v) = first(p, counts);
         t.count(i == 0, case, v);
         out.put(i, v);
     }
@@ -138,16 +153,19 @@ fn second_pass<V: Verdicts>(
     heal
 }
 
-// The refusals in their order, and the highest numbers where there is none. `rest`: a part of a pair follows, which the limit counts as
-// a pair; `room`: there is room for the verdicts.
+// The refusals in their order; notes the numbers, of all pairs where there is none. `rest`: a part of a pair follows, which the limit
+// counts as a pair; `room`: there is room for the verdicts.
 #[inline(always)]
-pub(crate) fn admit<P: ReadPair>(
+pub(crate) fn admit<P: ReadPair, C: Notes>(
     pairs: &[P],
     rest: bool,
     clean: u8,
     room: bool,
-) -> Result<Maxima, JudgeError>
-    ensures { result ≡ unless (error (not rest && length pairs.now == 0) (nat_lt (most_pairs - from_bool rest) (length pairs.now)) (not rest) room (nat_le clean 1 && list_all P.within pairs.now)) (note_all no_maxima (slots (map P.shown pairs.now))) }
+    notes: &mut C,
+) -> Result<(), JudgeError>
+    ensures value { result ≡ unless (error (not rest && length pairs.now == 0) (nat_lt (most_pairs - from_bool rest) (length pairs.now)) (not rest) room (nat_le clean 1 && (list_all P.within pairs.now && operators_in_range true (map P.shown pairs.now)))) tt }
+    ensures range { OnOk result (operators_in_range true (map P.shown pairs.now) ≡ true) }
+    ensures noted { OnOk result (notes.new ≡ note_pairs C.noted notes.old (map P.shown pairs.now)) }
 {
     if !rest && pairs.is_empty() {
         return Err(JudgeError::Empty);
@@ -161,13 +179,10 @@ pub(crate) fn admit<P: ReadPair>(
     if !room {
         return Err(JudgeError::OutputLength);
     }
-    if clean > 1 {
+    if clean > 1 || !note(pairs, notes) {
         return Err(JudgeError::OutOfRange);
     }
-    let Some(m) = maxima(pairs) else {
-        return Err(JudgeError::OutOfRange);
-    };
-    Ok(m)
+    Ok(())
 }
 
 // The owner generation of a pair's winner.
@@ -206,13 +221,14 @@ pub(crate) fn judge<P: ReadPair, V: Verdicts>(
     clean: u8,
     out: &mut V,
 ) -> Result<Judgement, JudgeError>
-    ensures value { result ≡ unless (error (not rest && length pairs.now == 0) (nat_lt (most_pairs - from_bool rest) (length pairs.now)) (not rest) (V.fitting out.old (length pairs.now)) (nat_le clean 1 && list_all P.within pairs.now)) (judgement (map P.shown pairs.now) (clean == 1)) }
+    ensures value { result ≡ unless (error (not rest && length pairs.now == 0) (nat_lt (most_pairs - from_bool rest) (length pairs.now)) (not rest) (V.fitting out.old (length pairs.now)) (nat_le clean 1 && (list_all P.within pairs.now && operators_in_range true (map P.shown pairs.now)))) (judgement (map P.shown pairs.now) (clean == 1)) }
     ensures cells { OnOk result (V.cells out.new ≡ map V.cell (verdicts (map P.shown pairs.now) (clean == 1))) }
     ensures kept { OnErr result (out.new ≡ out.old) }
     ensures place { V.place out.new ≡ V.place out.old }
 {
-    let m = admit(pairs, rest, clean, out.fits(pairs.len()))?;
-    let tally = first_pass(pairs, m, out);
+    let mut counts = Counts::new();
+    admit(pairs, rest, clean, out.fits(pairs.len()), &mut counts)?;
+    let tally = first_pass(pairs, &counts, out);
     let volume = out.verdict(0);
     let rules = tally.rules(clean == 1, volume);
     let heal = second_pass(rules, pairs.len(), out);
@@ -228,46 +244,70 @@ pub(crate) fn judge<P: ReadPair, V: Verdicts>(
 
 // ---- with no verdict kept
 
+// The highest numbers of an operator. `rest`: a part of a pair follows; `clean` is the volume winner's clean mark, 0 or 1.
+#[inline(always)]
+pub(crate) fn maxima<P: ReadPair>(
+    pairs: &[P],
+    rest: bool,
+    clean: u8,
+    operator: u8,
+) -> Result<Maxima, JudgeError>
+    ensures { result ≡ unless (error (not rest && length pairs.now == 0) (nat_lt (most_pairs - from_bool rest) (length pairs.now)) (not rest) true (nat_le clean 1 && (list_all P.within pairs.now && operators_in_range true (map P.shown pairs.now)))) (note_all no_maxima (numbers operator (map P.shown pairs.now))) }
+{
+    let mut own = Own::new(operator);
+    admit(pairs, rest, clean, true, &mut own)?;
+    Ok(own.maxima)
+}
+
 // What the first pass counts.
-fn tally<P: ReadPair>(pairs: &[P], m: Maxima) -> Tally
-    ensures { result ≡ tallies m true no_tally (map P.shown pairs.now) }
+fn tally<P: ReadPair>(pairs: &[P], counts: &Counts) -> Tally
+    ensures { result ≡ tallies counts.now true no_tally (map P.shown pairs.now) }
 {
     let mut t = Tally::default();
     for (i, p) in pairs.iter().enumerate() {
-        let case = p.pair().case();
-        t.count(i == 0, case, PairVerdict::first(m, case));
+        let (case, v) = first(p, counts);
+        t.count(i == 0, case, v);
     }
     t
 }
 
 // The slot that is in flight after the second pass.
-fn in_flight<P: ReadPair>(pairs: &[P], m: Maxima, rules: StoreRules) -> Option<(usize, SlotIndex)>
-    ensures { result ≡ heals 0 None (last_verdicts rules.volume_demote rules.page_demote (verdicts_by m (map P.shown pairs.now))) }
+fn in_flight<P: ReadPair>(
+    pairs: &[P],
+    counts: &Counts,
+    rules: StoreRules,
+) -> Option<(usize, SlotIndex)>
+    ensures { result ≡ heals 0 None (last_verdicts rules.volume_demote rules.page_demote (verdicts_by counts.now (map P.shown pairs.now))) }
 {
     let mut heal = None;
     for (i, p) in pairs.iter().enumerate() {
-        let v = PairVerdict::first(m, p.pair().case());
+        let (_, v) = first(p, counts);
         heal = v.demoted_if(rules.demotes(i == 0)).heal_or(i, heal);
     }
     heal
 }
 
 // The first verdict on the volume record.
-fn volume_verdict<P: ReadPair>(pairs: &[P], m: Maxima) -> PairVerdict
-    ensures { result ≡ volume_verdict (verdicts_by m (map P.shown pairs.now)) }
+fn volume_verdict<P: ReadPair>(pairs: &[P], counts: &Counts) -> PairVerdict
+    ensures { result ≡ volume_verdict (verdicts_by counts.now (map P.shown pairs.now)) }
 {
     match pairs {
-        [volume, ..] => PairVerdict::first(m, volume.pair().case()),
+        [volume, ..] => first(volume, counts).1,
         [] => PairVerdict::no_winner(Standing::Lost),
     }
 }
 
-// The slot that the judge names for healing.
-#[tactic(auto, using(crate::proofs::RowLaws::heal_judged))]
-pub(crate) fn heal<P: ReadPair>(pairs: &[P], m: Maxima, clean: bool) -> Option<(usize, SlotIndex)>
-    requires { m ≡ note_all no_maxima (slots (map P.shown pairs.now)) }
-    ensures { result ≡ (judgement (map P.shown pairs.now) clean).heal }
+// The slot that the judge names for healing, where there is room for the verdicts. `rest`: a part of a pair follows; `clean` is the volume
+// winner's clean mark, 0 or 1.
+pub(crate) fn heal<P: ReadPair>(
+    pairs: &[P],
+    rest: bool,
+    clean: u8,
+) -> Result<Option<(usize, SlotIndex)>, JudgeError>
+    ensures { result ≡ unless (error (not rest && length pairs.now == 0) (nat_lt (most_pairs - from_bool rest) (length pairs.now)) (not rest) true (nat_le clean 1 && (list_all P.within pairs.now && operators_in_range true (map P.shown pairs.now)))) (judgement (map P.shown pairs.now) (clean == 1)).heal }
 {
-    let rules = tally(pairs, m).rules(clean, volume_verdict(pairs, m));
-    in_flight(pairs, m, rules)
+    let mut counts = Counts::new();
+    admit(pairs, rest, clean, true, &mut counts)?;
+    let rules = tally(pairs, &counts).rules(clean == 1, volume_verdict(pairs, &counts));
+    Ok(in_flight(pairs, &counts, rules))
 }

@@ -12,12 +12,12 @@ use Rattle.slot.specs.declared.slot.Expect.{Expect}
 use Rattle.slot.proofs.Room.{power_room}
 use Rattle.slot.proofs.RoundTripLaws.{accepted}
 use Rattle.pair.specs.Pair.{winner_info, next_write}
-use Rattle.judge.specs.Numbers.{slots, highest}
+use Rattle.judge.specs.Numbers.{numbers, highest}
 use Rattle.judge.specs.Verdict.{by_index}
 use Rattle.judge.specs.Judge.{most_pairs}
-use Rattle.judge.specs.Frames.{row}
+use Rattle.judge.specs.Frames.{operator_in, row}
 use Rattle.judge.specs.Same.{AllFit, frame_of}
-use Rattle.judge.proofs.SameLaws.{row-is}
+use Rattle.judge.proofs.SameLaws.{operator-read, row-is}
 use Rattle.judge.specs.declared.pairs.Pair.{Pair as ShownPair}
 use Rattle.cut.specs.Store.{Every, Pair, slot_at, report, framed_pair, framed, shown, frames, SoundPair}
 use Rattle.cut.specs.Cut.{Tear, Ascending, Sectors, old, new, left, CorrectWith, AccidentBy}
@@ -77,17 +77,18 @@ planned_is_correct before p behind won plan owner compat payload buffer tear num
     let ps : List Pair = before ++ p ∷ behind in
     let all_fit : AllFit (framed ps) = row_fits (all_typed numbered) in
     let f : List ℕ = frame_of (framed_pair p) in
-    let has = plan_has (next_write (frame_report f)) (followed (frame_report f)) (highest (slots (row (frames ps)))) plan
+    let has = plan_has (next_write (frame_report f)) (followed (frame_report f)) (highest (numbers (operator_in f) (row (frames ps)))) plan
     (planned_frame (frames ps) f (length before) plan is (frame_at before p behind)) in
     let reports = frame_reports p (fits_at before p behind all_fit) in
     let follows : ◌≡◌ {A = ℕ × ℕ} (followed (frame_report f)) (won.1.generation, won.1.header_crc32c) =
     ap followed reports ∙ followed_held (report p) won.0 won.1 won_is in
     let next : Some plan.index ≡ Some (other won.0) =
     sym has.next_is ∙ ap next_write reports ∙ next_of_winner (held_report (report p)) won.0 _ (winner_held (report p) won.0 won.1 won_is) in
-    let tops : highest (slots (row (frames ps))) ≡ highest (slots (shown ps)) = ap (λ (row : List ShownPair). highest (slots row)) (row-is (framed ps) all_fit) in
-    given_correct before p behind won plan owner compat payload buffer tear (next_write (frame_report f)) (highest (slots (shown ps))) won_is
+    let tops : highest (numbers (operator_in f) (row (frames ps))) ≡ highest (numbers p.operator (shown ps)) =
+    ap₂ (λ (o : ℕ) (row : List ShownPair). highest (numbers o row)) (operator-read (framed_pair p) (fits_at before p behind all_fit)) (row-is (framed ps) all_fit) in
+    given_correct before p behind won plan owner compat payload buffer tear (next_write (frame_report f)) (highest (numbers p.operator (shown ps))) won_is
     (same_Some plan.index (other won.0) next)
-    (subst (λ (r : ℕ × ℕ). Has (next_write (frame_report f)) r (highest (slots (shown ps))) plan) follows
+    (subst (λ (r : ℕ × ℕ). Has (next_write (frame_report f)) r (highest (numbers p.operator (shown ps))) plan) follows
     (subst (λ (most : ℕ). Has (next_write (frame_report f)) (followed (frame_report f)) most plan) tops has))
     given
 

@@ -1,5 +1,5 @@
 -- A correct write to a sound store that is finished leaves a sound store: the written slot is Valid beside the winner before.
-use Rattle.std.proofs.Common.{◌≡◌, ap, ap₂, ◌∙◌, List, [], ◌∷◌, ◌++◌, ℕ, ◌<◌, arith}
+use Rattle.std.proofs.Common.{◌≡◌, refl, ap, ap₂, ◌∙◌, List, [], ◌∷◌, ◌++◌, ℕ, ◌<◌, true, arith}
 use Rattle.slot.specs.Status.{other}
 use Rattle.slot.specs.Payload.{payload as payload_of}
 use Rattle.slot.specs.Laws.{info_of}
@@ -10,7 +10,8 @@ use Rattle.cut.proofs.EveryLaws.{every_split, every_join}
 use Rattle.cut.proofs.PairLaws.{last_is}
 use Rattle.cut.proofs.NumberLaws.{in_highest}
 use Rattle.cut.proofs.StateLaws.{Leads, Resting, winner_number}
-use Rattle.cut.proofs.NextLaws.{kept_slot, put_decoder}
+use Rattle.cut.proofs.NextLaws.{kept_slot, put_decoder, put_operator}
+use Rattle.cut.proofs.RowLaws.{range_kept}
 use Rattle.cut.proofs.WriteLaws.{BesideWinner, sound_beside}
 use Rattle.cut.proofs.LeftLaws.{finished_wins}
 use Rattle.cut.proofs.Theorem.{sound_pairs}
@@ -23,12 +24,14 @@ page_kept index s p page = record { index = page.index; most = page.most; decode
 
 sound_put : (before : List Pair) (p : Pair) (behind : List Pair) (index : SlotIndex) (s : List ℕ) → Sound (before ++ p ∷ behind)
     → SoundPair (with_slot index s p) → Sound (before ++ with_slot index s p ∷ behind)
-sound_put [] p behind index s (Sound.row volume pages (Every.more first rest)) here =
-    Sound.row (put_decoder p s index ∙ volume) pages (Every.more here rest)
-sound_put (q ∷ before) p behind index s (Sound.row volume pages (Every.more first all)) here =
+sound_put [] p behind index s (Sound.row volume pages range (Every.more first rest)) here =
+    Sound.row (put_decoder p s index ∙ volume) pages
+    (range_kept true [] p (with_slot index s p) behind (put_operator p s index) ∙ range) (Every.more here rest)
+sound_put (q ∷ before) p behind index s (Sound.row volume pages range (Every.more first all)) here =
     let page = every_split before p behind pages in
     let rest = every_split before p behind all in
-    Sound.row volume (every_join page.0 (page_kept index s p page.1) page.2) (Every.more first (every_join rest.0 here rest.2))
+    Sound.row volume (every_join page.0 (page_kept index s p page.1) page.2)
+    (range_kept true (q ∷ before) p (with_slot index s p) behind (put_operator p s index) ∙ range) (Every.more first (every_join rest.0 here rest.2))
 
 -- ---- the written pair
 
@@ -44,7 +47,7 @@ module _ (w : Write) (sound : Sound (store w)) (correct : CorrectWrite w) where
 
   higher : correct.winner.meta_seq < next_number (store w) w.pair
   higher =
-      let among = in_highest w.before w.pair w.behind (other w.index) in
+      let among = in_highest w.pair.operator w.before w.pair w.behind refl (other w.index) in
       let own = winner_number w.pair (other w.index) correct.winner made.leads in
       omega arith
 

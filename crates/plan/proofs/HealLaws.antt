@@ -2,16 +2,16 @@
 use Rattle.std.proofs.Common.{◌≡◌, refl, sym, ap, ap₂, subst, ◌∙◌, List, ℕ, ◌*◌, ◌==◌, slice_get, Option, Some, None, Result, Ok, Err}
 use Rattle.std.proofs.lemmas.Option.{some_pair_parts, same_Some}
 use Rattle.slot.specs.declared.slot.SlotIndex.{SlotIndex}
-use Rattle.judge.specs.Numbers.{slots, place, highest_other}
 use Rattle.judge.specs.Judge.{judgement, unless}
 use Rattle.judge.specs.Frames.{verdict_width, pair_count, frames, row, frames_error, judge_frames, refusal}
+use Rattle.judge.specs.declared.pairs.Pair.{Pair}
 use Rattle.judge.specs.declared.verdict.JudgeError.{JudgeError}
 use Rattle.judge.specs.declared.verdict.Judgement.{Judgement}
 use Rattle.plan.specs.declared.error.PlanError.{PlanError}
 use Rattle.plan.specs.declared.write.Plan.{Plan}
 use Rattle.plan.specs.Pairs.{frame_report}
 use Rattle.plan.specs.Plan.{followed, plan_at, some_plan}
-use Rattle.plan.specs.Heal.{with_pair, heal_in, heal_for, plan_heal, HealsTheNamed}
+use Rattle.plan.specs.Heal.{others_of, with_pair, heal_in, heal_for, plan_heal, HealsTheNamed}
 use Rattle.plan.proofs.PlanLaws.{given, Has, plan_has}
 
 -- What the judge answers where it answers.
@@ -26,7 +26,7 @@ judged s clean j is = go (frames_error s clean (pair_count s * verdict_width)) i
 
 -- A plan is answered for the pair and the slot that it was asked for, after the winner's record and this number.
 asked : (f : List ℕ) (pair k : ℕ) (index : SlotIndex) (most : ℕ) (plan : Plan)
-    → heal_in (Some f) k index most ≡ Ok (Some (pair, plan))
+    → with_pair k (plan_at index (followed (frame_report f)) most) ≡ Ok (Some (pair, plan))
     → (◌≡◌ {A = ℕ × SlotIndex} (k, index) (pair, plan.index)) × Has (Some plan.index) (followed (frame_report f)) most plan
 asked f pair k index most plan is = go (plan_at index (followed (frame_report f)) most) refl is
   where
@@ -43,9 +43,9 @@ asked f pair k index most plan is = go (plan_at index (followed (frame_report f)
               (subst (λ (x : SlotIndex). Has (Some x) (followed (frame_report f)) most p) index_is has),
         )
 
-not_none : (f : Option (List ℕ)) (k : ℕ) (index : SlotIndex) (most : ℕ) → heal_in f k index most ≡ Ok None → ⊥
-not_none None k index most is = cc
-not_none (Some f) k index most is = go (plan_at index (followed (frame_report f)) most) is
+not_none : (f : Option (List ℕ)) (k : ℕ) (index : SlotIndex) (ps : List Pair) → heal_in f k index ps ≡ Ok None → ⊥
+not_none None k index ps is = cc
+not_none (Some f) k index ps is = go (plan_at index (followed (frame_report f)) (others_of f k index ps)) is
   where
     go : (r : Result Plan PlanError) → with_pair k r ≡ Ok None → ⊥
     go (Err e) is = cc
@@ -55,11 +55,11 @@ module _ (s : List ℕ) (clean : ℕ) where
   abbrev pub named : Option (ℕ × SlotIndex)
   named = (judgement (row s) (clean == 1)).heal
 
-  -- What is planned is for the named slot, after the record of its pair's winner and the highest of all other numbers.
+  -- What is planned is for the named slot, after the record of its pair's winner and the highest of its operator's other numbers.
   abbrev pub Planned : ℕ → Plan → List ℕ → Type 0
   Planned pair plan f =
       (slice_get (frames s) pair ≡ Some f)
-      × Has (Some plan.index) (followed (frame_report f)) (highest_other (place pair plan.index) (slots (row s))) plan
+      × Has (Some plan.index) (followed (frame_report f)) (others_of f pair plan.index (row s)) plan
 
   pub planned : (pair : ℕ) (plan : Plan) → plan_heal s clean ≡ Ok (Some (pair, plan))
       → (named ≡ Some (pair, plan.index)) × ((f : List ℕ) × Planned pair plan f)
@@ -67,18 +67,18 @@ module _ (s : List ℕ) (clean : ℕ) where
   planned pair plan is = go named (given (refusal s clean) is).1
     where
       in_frame : (k : ℕ) (index : SlotIndex) (frame : Option (List ℕ)) → slice_get (frames s) k ≡ frame
-          → heal_in frame k index (highest_other (place k index) (slots (row s))) ≡ Ok (Some (pair, plan))
+          → heal_in frame k index (row s) ≡ Ok (Some (pair, plan))
           → (◌≡◌ {A = ℕ × SlotIndex} (k, index) (pair, plan.index)) × ((f : List ℕ) × Planned pair plan f)
       in_frame k index None frame_is is = absurd cc
       in_frame k index (Some f) frame_is is =
-          let known = asked f pair k index (highest_other (place k index) (slots (row s))) plan is in (
+          let known = asked f pair k index (others_of f k index (row s)) plan is in (
             known.0,
             (
               f,
               subst
                   (λ (x : ℕ × SlotIndex).
                   (slice_get (frames s) x.0 ≡ Some f)
-                  × Has (Some plan.index) (followed (frame_report f)) (highest_other (place x.0 x.1) (slots (row s))) plan)
+                  × Has (Some plan.index) (followed (frame_report f)) (others_of f x.0 x.1 (row s)) plan)
                   known.0 (frame_is, known.1),
             ),
           )
@@ -94,7 +94,7 @@ module _ (s : List ℕ) (clean : ℕ) where
     where
       go : (n : Option (ℕ × SlotIndex)) → heal_for s n ≡ Ok None → n ≡ None
       go None is = refl
-      go (Some n) is = absurd (not_none (slice_get (frames s) n.0) n.0 n.1 (highest_other (place n.0 n.1) (slots (row s))) is)
+      go (Some n) is = absurd (not_none (slice_get (frames s) n.0) n.0 n.1 (row s) is)
 
 pub heals_the_named : HealsTheNamed
 heals_the_named =

@@ -1,4 +1,4 @@
--- What a plan has: the slot that `next_write` names, and one above the record before and above the highest number.
+-- What a plan has: the slot that `next_write` names, and one above the record before and above its operator's highest number.
 use Rattle.std.proofs.Common.{◌≡◌, refl, sym, ap, subst, ◌∙◌, Bool, true, false, cond, List, ℕ, ◌+◌, ◌-◌, ◌*◌, ◌^◌, ◌<◌, ◌≤◌, arith, ltb, ltb-true, slice_get, Option, Some, None, Result, Ok, Err}
 use Rattle.std.proofs.lemmas.Option.{some_pair_parts}
 use Rattle.slot.specs.Status.{other, info}
@@ -7,9 +7,9 @@ use Rattle.slot.specs.declared.slot.SlotInfo.{SlotInfo}
 use Rattle.pair.specs.Pair.{status, named, info_by, winner_info, next_by, next_write}
 use Rattle.pair.specs.declared.pair.PairReport.{PairReport}
 use Rattle.pair.specs.declared.pair.Winner.{Winner}
-use Rattle.judge.specs.Numbers.{slots, highest}
+use Rattle.judge.specs.Numbers.{numbers, highest}
 use Rattle.judge.specs.Judge.{most_pairs}
-use Rattle.judge.specs.Frames.{verdict_width, pair_count, frames, row, refusal}
+use Rattle.judge.specs.Frames.{verdict_width, operator_in, pair_count, frames, row, refusal}
 use Rattle.judge.proofs.FrameLaws.{few, too_many}
 use Rattle.judge.specs.declared.verdict.JudgeError.{JudgeError}
 use Rattle.plan.specs.declared.error.PlanError.{PlanError}
@@ -28,7 +28,7 @@ given None is = (refl, is)
 given (Some e) is = absurd cc
 
 pub planned_frame : (s f : List ℕ) (i : ℕ) (plan : Plan) → plan_write s i ≡ Ok (Some plan) → slice_get (frames s) i ≡ Some f
-    → plan_next (next_write (frame_report f)) (followed (frame_report f)) (highest (slots (row s))) ≡ Ok (Some plan)
+    → plan_next (next_write (frame_report f)) (followed (frame_report f)) (highest (numbers (operator_in f) (row s))) ≡ Ok (Some plan)
 unfolding plan_write
 planned_frame s f i plan is at = rw at at (given (refusal s 0) is).1
 
@@ -43,8 +43,8 @@ unfolding next_number heal_number plan_write plan_heal encoded_write
 more_refused s more =
     let refused = λ (clean : ℕ). too_many s clean (pair_count s * verdict_width) (omega (arith, more)) in
     record {
-      next = rw (refused 0);
-      above_winners = rw (refused 0);
+      next = λ o. rw (refused 0);
+      above_winners = λ o. rw (refused 0);
       plan = λ i. rw (refused 0);
       heal = λ clean. rw (refused clean);
       encoded = λ i a b owner compat payload out. rw (refused 0);

@@ -5,10 +5,11 @@ use Rattle.judge.specs.Values.{error_number as judge_number}
 use Rattle.judge.specs.declared.verdict.JudgeError.{JudgeError}
 use Rattle.plan.specs.declared.error.PlanError.{PlanError}
 
--- The judge's 8, 45 and 10; 8 no such pair; 48 no generation or no number is left; of `encode` 1, 2 and 3.
+-- The judge's 8, 45 and 10; 8 no such pair; 10 no such operator; 48 no generation or no number is left; of `encode` 1, 2 and 3.
 abbrev pub error_number : PlanError → ℕ
 error_number (PlanError.Frames error) = judge_number error
 error_number PlanError.NoPair = 8
+error_number PlanError.NoOperator = 10
 error_number PlanError.UsedUp = 48
 error_number (PlanError.Encode error) = encode_number error
 

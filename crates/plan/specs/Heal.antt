@@ -1,9 +1,10 @@
 -- The plan of the write that heals (docs/FORMAT.md, "What a correct write is").
 use Rattle.std.specs.Prelude.{◌≡◌, List, ℕ, ◌*◌, ◌==◌, Option, Some, None, Result, Ok, Err, slice_get}
 use Rattle.slot.specs.declared.slot.SlotIndex.{SlotIndex}
-use Rattle.judge.specs.Numbers.{slots, place, highest_other}
+use Rattle.judge.specs.Numbers.{numbers, place, highest_other}
 use Rattle.judge.specs.Judge.{judgement}
-use Rattle.judge.specs.Frames.{verdict_width, pair_count, frames, row, judge_frames, refusal}
+use Rattle.judge.specs.Frames.{verdict_width, operator_in, pair_count, frames, row, judge_frames, refusal}
+use Rattle.judge.specs.declared.pairs.Pair.{Pair}
 use Rattle.judge.specs.declared.verdict.Judgement.{Judgement}
 use Rattle.plan.specs.declared.error.PlanError.{PlanError}
 use Rattle.plan.specs.declared.write.Plan.{Plan}
@@ -15,14 +16,18 @@ abbrev pub with_pair : ℕ → Result Plan PlanError → Result (Option (ℕ × 
 with_pair pair (Ok plan) = Ok (Some (pair, plan))
 with_pair pair (Err error) = Err error
 
--- A write to the named slot, with the number after the highest of all numbered slots but that one.
-abbrev pub heal_in : Option (List ℕ) → ℕ → SlotIndex → ℕ → Result (Option (ℕ × Plan)) PlanError
-heal_in None pair index most = Err PlanError.NoPair
-heal_in (Some f) pair index most = with_pair pair (plan_at index (followed (frame_report f)) most)
+-- The highest of all numbered slots of a frame's operator but the named one.
+abbrev pub others_of : List ℕ → ℕ → SlotIndex → List Pair → ℕ
+others_of f pair index ps = highest_other (place pair index) (numbers (operator_in f) ps)
+
+-- A write to the named slot, with the number after that.
+abbrev pub heal_in : Option (List ℕ) → ℕ → SlotIndex → List Pair → Result (Option (ℕ × Plan)) PlanError
+heal_in None pair index ps = Err PlanError.NoPair
+heal_in (Some f) pair index ps = with_pair pair (plan_at index (followed (frame_report f)) (others_of f pair index ps))
 
 abbrev pub heal_for : List ℕ → Option (ℕ × SlotIndex) → Result (Option (ℕ × Plan)) PlanError
 heal_for s None = Ok None
-heal_for s (Some named) = heal_in (slice_get (frames s) named.0) named.0 named.1 (highest_other (place named.0 named.1) (slots (row s)))
+heal_for s (Some named) = heal_in (slice_get (frames s) named.0) named.0 named.1 (row s)
 
 -- Of the slot that the judge names.
 unfoldable pub plan_heal : List ℕ → ℕ → Result (Option (ℕ × Plan)) PlanError

@@ -5,8 +5,9 @@ use Rattle.slot.specs.declared.slot.SlotIndex.{SlotIndex}
 use Rattle.slot.specs.declared.slot.SlotInfo.{SlotInfo}
 use Rattle.pair.specs.Pair.{winner_info, next_write}
 use Rattle.pair.specs.declared.pair.PairReport.{PairReport}
-use Rattle.judge.specs.Numbers.{slots, highest}
-use Rattle.judge.specs.Frames.{frames, row, refusal}
+use Rattle.judge.specs.Numbers.{numbers, highest}
+use Rattle.judge.specs.Frames.{operator_in, frames, row, refusal}
+use Rattle.judge.specs.declared.pairs.Pair.{Pair}
 use Rattle.plan.specs.declared.error.PlanError.{PlanError}
 use Rattle.plan.specs.declared.write.Plan.{Plan}
 use Rattle.plan.specs.Error.{unless_refused}
@@ -43,13 +44,14 @@ abbrev pub plan_next : Option SlotIndex → ℕ × ℕ → ℕ → Result (Optio
 plan_next None record_before most = Ok None
 plan_next (Some index) record_before most = some_plan (plan_at index record_before most)
 
-abbrev pub plan_for : Option (List ℕ) → ℕ → Result (Option Plan) PlanError
-plan_for None most = Err PlanError.NoPair
-plan_for (Some f) most = plan_next (next_write (frame_report f)) (followed (frame_report f)) most
+-- With the number after the highest of the frame's operator.
+abbrev pub plan_for : Option (List ℕ) → List Pair → Result (Option Plan) PlanError
+plan_for None ps = Err PlanError.NoPair
+plan_for (Some f) ps = plan_next (next_write (frame_report f)) (followed (frame_report f)) (highest (numbers (operator_in f) ps))
 
--- Of the pair i, with the number of the next write.
+-- Of the pair i, with the number of its operator's next write.
 unfoldable pub plan_write : List ℕ → ℕ → Result (Option Plan) PlanError
-plan_write s i = unless_refused (refusal s 0) (plan_for (slice_get (frames s) i) (highest (slots (row s))))
+plan_write s i = unless_refused (refusal s 0) (plan_for (slice_get (frames s) i) (row s))
 
 -- The planned slot is never the winner.
 abbrev pub NotTheWinner : Type 0

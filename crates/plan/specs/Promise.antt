@@ -20,8 +20,8 @@ use Rattle.plan.specs.Next.{fields_of, next_write}
 
 -- All five functions refuse frames with this error of the judge, whatever else they are asked, and the buffer is kept.
 pub record AllRefuse (s : List ℕ) (error : JudgeError) : Type 0 where
-  pub next : next_number s ≡ Err (PlanError.Frames error)
-  pub above_winners : heal_number s ≡ Err (PlanError.Frames error)
+  pub next : (o : ℕ) → next_number s o ≡ Err (PlanError.Frames error)
+  pub above_winners : (o : ℕ) → heal_number s o ≡ Err (PlanError.Frames error)
   pub plan : (i : ℕ) → plan_write s i ≡ Err (PlanError.Frames error)
   pub heal : (clean : ℕ) → plan_heal s clean ≡ Err (PlanError.Frames error)
   pub encoded : (i : ℕ) (a b : Expect) (owner compat : ℕ) (payload out : List ℕ)

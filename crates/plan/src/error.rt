@@ -13,6 +13,8 @@ pub enum PlanError {
     Frames(JudgeError),
     // The row has no such pair.
     NoPair,
+    // There is no such operator.
+    NoOperator,
     // No generation or no number is left.
     UsedUp,
     // The planned write is not encoded.
@@ -27,6 +29,7 @@ impl PlanError {
         match self {
             PlanError::Frames(error) => error.number(),
             PlanError::NoPair => 8,
+            PlanError::NoOperator => 10,
             PlanError::UsedUp => 48,
             PlanError::Encode(error) => error.number(),
         }

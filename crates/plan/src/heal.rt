@@ -12,11 +12,11 @@ ghost use Rattle.plan.specs.Heal.{with_pair, plan_heal};
 use crate::error::PlanError;
 use crate::frame;
 use crate::write::{Plan, frame_at, plan_at};
-use judge::frames::{FRAME, heal, maxima, shown};
+use judge::frames::{FRAME, heal, maxima, operator, shown};
 use judge::numbers::Maxima;
 use slot::slot::SlotIndex;
 
-// A write to the slot at `index` of the pair with this frame, with the number after the highest of all other slots.
+// A write to the slot at `index` of the pair with this frame, with the number after the highest of its operator's other slots.
 fn plan_named(
     pair: usize,
     frame: &[u8; FRAME],
@@ -38,9 +38,9 @@ pub fn plan_heal(frames: &[u8], clean: u8) -> Result<Option<(usize, Plan)>, Plan
     let Some((pair, index)) = heal(frames, clean)? else {
         return Ok(None);
     };
-    let m = maxima(frames, clean)?;
     let Some(frame) = frame_at(frames, pair) else {
         return Err(PlanError::NoPair);
     };
+    let m = maxima(frames, clean, operator(frame))?;
     plan_named(pair, frame, index, m)
 }

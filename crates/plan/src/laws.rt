@@ -1,13 +1,15 @@
 // The laws of the planned writes, each the contract of a function that does nothing.
-ghost use Rattle.plan.specs.Numbers.{WinnersOfVerdicts};
+ghost use Rattle.plan.specs.Numbers.{WinnersOfVerdicts, WinnersOfOne};
 ghost use Rattle.plan.specs.Plan.{NotTheWinner};
 ghost use Rattle.plan.specs.Heal.{HealsTheNamed};
 ghost use Rattle.plan.specs.Promise.{MoreRefused, PlannedIsCorrect, BothKindsSurvived, FinishedIsSound};
 
-// Does nothing: its contract is that the winners whose numbers `heal_number` goes by are those of the judge's verdicts.
-#[tactic(auto, using(crate::proofs::WinnerLaws::winners_of_verdicts))]
+// Does nothing: its contract is that the winners whose numbers `heal_number` goes by are those of the judge's verdicts, and all of them
+// where all pairs are one operator's.
+#[tactic(auto, using(crate::proofs::WinnerLaws::winners_of_verdicts, crate::proofs::WinnerLaws::winners_of_one))]
 pub fn winners_law()
-    ensures { WinnersOfVerdicts }
+    ensures verdicts { WinnersOfVerdicts }
+    ensures one { WinnersOfOne }
 {}
 
 // Does nothing: its contract is that the planned slot is never the winner.

@@ -6,7 +6,8 @@ ghost use Rattle.plan.specs.Plan.{followed, plan_at, plan_next, plan_write};
 
 use crate::error::PlanError;
 use crate::{frame, numbers};
-use judge::frames::FRAME;
+use judge::frames::{FRAME, operator};
+use judge::operators::VOLUME_OPERATOR;
 use pair::pair::PairReport;
 use slot::slot::SlotIndex;
 
@@ -53,14 +54,15 @@ pub(crate) fn frame_at(frames: &[u8], pair: usize) -> Option<&[u8; FRAME]>
     pairs.get(pair)
 }
 
-// Plans the next write of the pair at `pair`; None where the pair must not be written.
+// Plans the next write of the pair at `pair`, with the number after the highest of its operator; None where the pair must not be written.
 #[inline(always)]
 #[tactic(auto, unfolding(crate::specs::Plan::plan_write))]
 pub fn plan_write(frames: &[u8], pair: usize) -> Result<Option<Plan>, PlanError>
     ensures { result ≡ plan_write frames.now pair }
 {
-    let most = numbers::highest_number(frames)?;
-    let Some(frame) = frame_at(frames, pair) else {
+    let frame = frame_at(frames, pair);
+    let most = numbers::highest_number(frames, frame.map_or(VOLUME_OPERATOR, operator))?;
+    let Some(frame) = frame else {
         return Err(PlanError::NoPair);
     };
     plan_next(&frame::report(frame), most)

@@ -89,6 +89,7 @@ fn over_row(input: &[u8], answer: &mut Bytes) -> Option<()> {
     let mut pairs = [PairRead {
         a: unread,
         b: unread,
+        operator: 0,
     }; PAIRS];
     let mut verdicts = [PairVerdict {
         standing: Standing::Lost,

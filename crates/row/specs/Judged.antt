@@ -35,7 +35,8 @@ verdicts_left s clean room pairs verdicts =
     if is_no_row s room pairs (length verdicts) then verdicts
     else judged_left (records s) clean (take room verdicts) ++ drop room verdicts
 
--- So both judges answer the same over whole frames whose values are in range, where so many verdicts are lent.
+-- So both judges answer the same over whole frames whose slots' values are in range, where so many verdicts are lent. The operators are
+-- tested by both.
 abbrev pub SameAnswer : Type 0
 SameAnswer =
     (s : List ℕ) (clean : Bool) (room : ℕ) → length s % frame_width ≡ 0 → list_all pair_in_range (frames s) ≡ true

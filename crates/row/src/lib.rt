@@ -6,7 +6,7 @@ ghost use Rattle.std.specs.Prelude.{◌≡◌, length};
 ghost use Rattle.row.specs.Records.{status_from, facts_from, slot_of, pair_of, SameShown};
 ghost use Rattle.row.specs.Judged.{SameAnswer, judge_row, verdicts_left, records_left, bytes_left};
 
-use judge::frames::{FRAME, VERDICT, parts};
+use judge::frames::{FRAME, VERDICT, operator, parts};
 use judge::part::SlotPart;
 use judge::records::{PairRead, SlotRead};
 use judge::verdict::{JudgeError, Judgement, PairVerdict};
@@ -57,13 +57,15 @@ fn pair_of(frame: &[u8; FRAME]) -> PairRead
     PairRead {
         a: slot_of(a),
         b: slot_of(b),
+        operator: operator(frame),
     }
 }
 
 // ---- the judge
 
-// Judges the pairs that the frames stand for into the first `room` of the lent verdicts: 8 and 9 are the judge's errors, 10 is for no whole
-// frames and for more pairs or verdicts than were lent. Of the lent pairs the first are the records of the frames.
+// Judges the pairs that the frames stand for into the first `room` of the lent verdicts: 8, 9, 45 and, for an operator, 10 are the judge's
+// errors; 10 is for no whole frames and for more pairs or verdicts than were lent too. Of the lent pairs the first are the records of the
+// frames.
 #[tactic(auto, unfolding(crate::specs::Judged::judge_row, crate::specs::Judged::records_left, crate::specs::Judged::verdicts_left))]
 pub fn judge_row(
     frames: &[u8],
@@ -87,8 +89,8 @@ pub fn judge_row(
     judge::records::judge(&pairs[..whole.len()], clean, &mut verdicts[..room])
 }
 
-// Does nothing: its contract is that a frame whose values are in range and the record that it stands for tell the judge the same, the owner
-// generation included, so that both judges answer the same over them.
+// Does nothing: its contract is that a frame whose slots' values are in range and the record that it stands for tell the judge the same, the
+// owner generation and the operator included, so that both judges answer the same over them.
 #[tactic(auto, using(crate::proofs::SameLaws::same_shown, crate::proofs::SameLaws::same_answer))]
 pub fn same_law()
     ensures shown { SameShown }

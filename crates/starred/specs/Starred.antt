@@ -8,7 +8,7 @@ use Rattle.slot.specs.declared.slot.SlotIndex.{SlotIndex}
 use Rattle.slot.specs.declared.slot.SlotFields.{SlotFields}
 use Rattle.judge.specs.Part.{part_shown}
 use Rattle.judge.specs.Pairs.{opposite}
-use Rattle.judge.specs.Numbers.{qualifies}
+use Rattle.judge.specs.Numbers.{numbers, qualifies}
 use Rattle.judge.specs.Verdict.{winner_beside}
 use Rattle.judge.specs.Judge.{verdicts, judgement}
 use Rattle.judge.specs.declared.pairs.Version.{Version}
@@ -81,7 +81,7 @@ torn number =
     })
 
 abbrev pub pair : Shown → Shown → Pair
-pair a b = record { a = a; b = b }
+pair a b = record { a = a; b = b; operator = 0 }
 
 -- A volume record with a number, and a page beside a torn write with another one.
 abbrev pub numbered_row : ℕ → ℕ → List Pair
@@ -166,9 +166,9 @@ pub record Starred : Type 0 where
   pub a_second_judged : judged (pair (valid 2 1) blank_slot ∷ []) ≡ (winner_beside SlotIndex.A SlotVerdict.Damage ∷ [], None)
   -- Numbers 4 and candidate 5: qualifies; 5 and 5, or 4 and 6: not.
   pub candidate : opposite SlotIndex.A (version 1 4) (torn 5) ≡ Opposite.Candidate (Some 5)
-  pub numbers_4_5 : qualifies (valid 1 4 ∷ torn 5 ∷ []) 1 (Some 5) ≡ true
-  pub numbers_5_5 : qualifies (valid 1 5 ∷ torn 5 ∷ []) 1 (Some 5) ≡ false
-  pub numbers_4_6 : qualifies (valid 1 4 ∷ torn 6 ∷ []) 1 (Some 6) ≡ false
+  pub numbers_4_5 : qualifies (numbers 0 (pair (valid 1 4) (torn 5) ∷ [])) 1 (Some 5) ≡ true
+  pub numbers_5_5 : qualifies (numbers 0 (pair (valid 1 5) (torn 5) ∷ [])) 1 (Some 5) ≡ false
+  pub numbers_4_6 : qualifies (numbers 0 (pair (valid 1 4) (torn 6) ∷ [])) 1 (Some 6) ≡ false
   pub judged_4_5 : judged (numbered_row 4 5)
       ≡ (winner_beside SlotIndex.A SlotVerdict.Nothing ∷ winner_beside SlotIndex.A SlotVerdict.InFlight ∷ [], Some (1, SlotIndex.B))
   pub judged_5_5 : judged (numbered_row 5 5)

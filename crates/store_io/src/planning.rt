@@ -19,12 +19,12 @@ use plan::numbers::{heal_number, next_number};
 use plan::write::{Plan, plan_write};
 use slot::slot::Expect;
 
-// The number of the next write.
+// The number of an operator's next write.
 #[unsafe(no_mangle)]
-pub extern "C" fn sio_next_number(frames: &[u8], number: &mut u64) -> u32
-    ensures { (result, number.new) ≡ answer error_number (λ n. n) number.old (next_number frames.now) }
+pub extern "C" fn sio_next_number(frames: &[u8], operator_id: u8, number: &mut u64) -> u32
+    ensures { (result, number.new) ≡ answer error_number (λ n. n) number.old (next_number frames.now operator_id) }
 {
-    match next_number(frames) {
+    match next_number(frames, operator_id) {
         Ok(next) => {
             *number = next;
             0
@@ -33,12 +33,12 @@ pub extern "C" fn sio_next_number(frames: &[u8], number: &mut u64) -> u32
     }
 }
 
-// One above the numbers of all winners.
+// One above the numbers of an operator's winners.
 #[unsafe(no_mangle)]
-pub extern "C" fn sio_heal_number(frames: &[u8], number: &mut u64) -> u32
-    ensures { (result, number.new) ≡ answer error_number (λ n. n) number.old (heal_number frames.now) }
+pub extern "C" fn sio_heal_number(frames: &[u8], operator_id: u8, number: &mut u64) -> u32
+    ensures { (result, number.new) ≡ answer error_number (λ n. n) number.old (heal_number frames.now operator_id) }
 {
-    match heal_number(frames) {
+    match heal_number(frames, operator_id) {
         Ok(next) => {
             *number = next;
             0

@@ -55,25 +55,26 @@ lines_cut (x ∷ s) some = go (nat_eq x newline) refl (rest s (lines_cut s))
     go false is behind = simp is (behind ∙ with-before x (cut newline s))
 
 -- The frames of a text by its first line.
-abbrev pub frames_by : Option (List ℕ × List ℕ) → Option (List ℕ)
-frames_by None = None
-frames_by (Some parts) = joined (frame_of parts.0) (frames_in parts.1)
+abbrev pub frames_by : Bool → Option (List ℕ × List ℕ) → Option (List ℕ)
+frames_by volume None = None
+frames_by volume (Some parts) = joined (frame_of volume parts.0) (frames_in false parts.1)
 
 none_joined : (frame : Option (List ℕ)) → joined frame None ≡ None
 none_joined None = refl
 none_joined (Some frame) = refl
 
-behind : (line : List ℕ) (o : Option (List (List ℕ)))
-    → option_and_then frames_of (option_map (λ (others : List (List ℕ)). line ∷ others) o) ≡ joined (frame_of line) (option_and_then frames_of o)
-behind line None = sym (none_joined (frame_of line))
-behind line (Some others) = refl
+behind : (volume : Bool) (line : List ℕ) (o : Option (List (List ℕ)))
+    → option_and_then (frames_of volume) (option_map (λ (others : List (List ℕ)). line ∷ others) o)
+    ≡ joined (frame_of volume line) (option_and_then (frames_of false) o)
+behind volume line None = sym (none_joined (frame_of volume line))
+behind volume line (Some others) = refl
 
-pub frames_cut : (s : List ℕ) → 0 < length s → frames_in s ≡ frames_by (cut newline s)
-frames_cut s some = ap (option_and_then frames_of) (lines_cut s some) ∙ go (cut newline s)
+pub frames_cut : (volume : Bool) (s : List ℕ) → 0 < length s → frames_in volume s ≡ frames_by volume (cut newline s)
+frames_cut volume s some = ap (option_and_then (frames_of volume)) (lines_cut s some) ∙ go (cut newline s)
   where
-    go : (o : Option (List ℕ × List ℕ)) → option_and_then frames_of (lines_by o) ≡ frames_by o
+    go : (o : Option (List ℕ × List ℕ)) → option_and_then (frames_of volume) (lines_by o) ≡ frames_by volume o
     go None = refl
-    go (Some (line, rest)) = behind line (lines rest)
+    go (Some (line, rest)) = behind volume line (lines rest)
 
 -- ---- the lines that are left
 
@@ -81,21 +82,22 @@ joined-joined : (front frame : List ℕ) (o : Option (List ℕ)) → joined (Som
 joined-joined front frame None = refl
 joined-joined front frame (Some others) = ap (λ (l : List ℕ). Some l) (append_assoc front frame others)
 
-module _ (front text all : List ℕ) (so_far : joined (Some front) (frames_in text) ≡ frames_in all) (more : 0 < length text) where
-  here : (o : Option (List ℕ × List ℕ)) → cut newline text ≡ o → joined (Some front) (frames_by o) ≡ frames_in all
-  here o is = ap (joined (Some front)) (sym (frames_cut text more ∙ ap frames_by is)) ∙ so_far
+-- `volume`: the next line is the volume record's.
+module _ (front text all : List ℕ) (volume : Bool) (so_far : joined (Some front) (frames_in volume text) ≡ frames_in true all) (more : 0 < length text) where
+  here : (o : Option (List ℕ × List ℕ)) → cut newline text ≡ o → joined (Some front) (frames_by volume o) ≡ frames_in true all
+  here o is = ap (joined (Some front)) (sym (frames_cut volume text more ∙ ap (frames_by volume) is)) ∙ so_far
 
-  pub not_ended : cut newline text ≡ None → frames_in all ≡ None
+  pub not_ended : cut newline text ≡ None → frames_in true all ≡ None
   not_ended is = sym (here None is)
 
   module _ (line others : List ℕ) (first : cut newline text ≡ Some (line, others)) where
-    pub no_frame : frame_of line ≡ None → frames_in all ≡ None
-    no_frame is = sym (here _ first) ∙ ap (λ (f : Option (List ℕ)). joined (Some front) (joined f (frames_in others))) is
+    pub no_frame : frame_of volume line ≡ None → frames_in true all ≡ None
+    no_frame is = sym (here _ first) ∙ ap (λ (f : Option (List ℕ)). joined (Some front) (joined f (frames_in false others))) is
 
-    pub one_more : (frame : List ℕ) → frame_of line ≡ Some frame → joined (Some (front ++ frame)) (frames_in others) ≡ frames_in all
+    pub one_more : (frame : List ℕ) → frame_of volume line ≡ Some frame → joined (Some (front ++ frame)) (frames_in false others) ≡ frames_in true all
     one_more frame is =
-        joined-joined front frame (frames_in others)
-        ∙ ap (λ (f : Option (List ℕ)). joined (Some front) (joined f (frames_in others))) (sym is)
+        joined-joined front frame (frames_in false others)
+        ∙ ap (λ (f : Option (List ℕ)). joined (Some front) (joined f (frames_in false others))) (sym is)
         ∙ here _ first
 
 -- ---- the mark and the frames
@@ -109,14 +111,14 @@ no_store (Some clean) = refl
 
 abbrev pub store_by : Option (List ℕ × List ℕ) → Option (Bool × List ℕ)
 store_by None = None
-store_by (Some parts) = marked (mark_of parts.0) (frames_in parts.1)
+store_by (Some parts) = marked (mark_of parts.0) (frames_in true parts.1)
 
 pub store_cut : (text : List ℕ) → store_in text ≡ store_by (cut newline text)
 store_cut [] = refl
 store_cut (c ∷ text) = ap (option_and_then store_of) (lines_cut (c ∷ text) (omega arith)) ∙ go (cut newline (c ∷ text))
   where
     first : (line : List ℕ) (o : Option (List (List ℕ)))
-        → option_and_then store_of (option_map (λ (others : List (List ℕ)). line ∷ others) o) ≡ marked (mark_of line) (option_and_then frames_of o)
+        → option_and_then store_of (option_map (λ (others : List (List ℕ)). line ∷ others) o) ≡ marked (mark_of line) (option_and_then (frames_of true) o)
     first line None = sym (no_store (mark_of line))
     first line (Some others) = refl
 

@@ -9,4 +9,4 @@ use Rattle.verdict_text.specs.Examples.{TextExamples}
 
 pub text_examples : TextExamples
 unfolding le encode_with decode_pairs first_verdicts first_tally row_rules verdicts judgement frames_error judged
-text_examples = record { store = refl; two_owners = refl; torn_header = refl; no_frame = refl; wrong_mark = refl; too_many = refl; too_many_and_bad = refl; long = refl }
+text_examples = record { store = refl; two_owners = refl; torn_header = refl; no_frame = refl; wrong_mark = refl; too_many = refl; too_many_and_bad = refl; two_operators = refl; last_operator = refl; no_operator = refl; volume_operator = refl; too_many_and_no_operator = refl; long = refl }

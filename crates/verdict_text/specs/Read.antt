@@ -5,7 +5,8 @@ use Rattle.std.specs.List.{list_all}
 use Rattle.std.specs.Option.{option_map, option_and_then}
 use Rattle.std.specs.Result.{result_ok}
 use Rattle.hex.specs.Hex.{decode_sized}
-use Rattle.judge.specs.Frames.{frame_width, pair_in_range}
+use Rattle.judge.specs.Operators.{operator_in_range}
+use Rattle.judge.specs.Frames.{frame_width, operator_in, pair_in_range}
 
 abbrev pub newline : ℕ
 newline = 0x0a
@@ -29,24 +30,24 @@ abbrev pub mark_of : List ℕ → Option Bool
 mark_of (a ∷ b ∷ []) = if not (a == 0x30) then None else if b == 0x30 then Some false else if b == 0x31 then Some true else None
 mark_of _ = None
 
--- A frame whose codes and facts are in range.
-abbrev pub ranged : Option (List ℕ) → Option (List ℕ)
-ranged None = None
-ranged (Some frame) = if pair_in_range frame then Some frame else None
+-- A frame whose codes, facts and operator are in range; `volume`: of the volume record.
+abbrev pub ranged : Bool → Option (List ℕ) → Option (List ℕ)
+ranged volume None = None
+ranged volume (Some frame) = if pair_in_range frame && operator_in_range volume (operator_in frame) then Some frame else None
 
--- The frame of a line: two digits a byte, codes and facts in range.
-abbrev pub frame_of : List ℕ → Option (List ℕ)
-frame_of line = if list_all is_digit line then ranged (result_ok (decode_sized line frame_width)) else None
+-- The frame of a line: two digits a byte, all of them in range.
+abbrev pub frame_of : Bool → List ℕ → Option (List ℕ)
+frame_of volume line = if list_all is_digit line then ranged volume (result_ok (decode_sized line frame_width)) else None
 
 abbrev pub joined : Option (List ℕ) → Option (List ℕ) → Option (List ℕ)
 joined None others = None
 joined (Some frame) None = None
 joined (Some frame) (Some others) = Some (frame ++ others)
 
--- The frames of lines, one after the other.
-abbrev pub frames_of : List (List ℕ) → Option (List ℕ)
-frames_of [] = Some []
-frames_of (line ∷ others) = joined (frame_of line) (frames_of others)
+-- The frames of lines, one after the other; `volume`: the first is the volume record's.
+abbrev pub frames_of : Bool → List (List ℕ) → Option (List ℕ)
+frames_of volume [] = Some []
+frames_of volume (line ∷ others) = joined (frame_of volume line) (frames_of false others)
 
 -- A character before the others of the first line; `None` where no newline ends that line.
 abbrev pub with_char : ℕ → Option (List (List ℕ)) → Option (List (List ℕ))
@@ -64,11 +65,11 @@ lines (c ∷ text) =
 abbrev pub store_of : List (List ℕ) → Option (Bool × List ℕ)
 store_of [] = None
 store_of (mark ∷ others) =
-    option_and_then (λ (clean : Bool). option_map (λ (frames : List ℕ). (clean, frames)) (frames_of others)) (mark_of mark)
+    option_and_then (λ (clean : Bool). option_map (λ (frames : List ℕ). (clean, frames)) (frames_of true others)) (mark_of mark)
 
 -- The frames of a text of such lines, and the mark and the frames of a whole text.
-abbrev pub frames_in : List ℕ → Option (List ℕ)
-frames_in text = option_and_then frames_of (lines text)
+abbrev pub frames_in : Bool → List ℕ → Option (List ℕ)
+frames_in volume text = option_and_then (frames_of volume) (lines text)
 
 abbrev pub store_in : List ℕ → Option (Bool × List ℕ)
 store_in text = option_and_then store_of (lines text)

@@ -1,12 +1,13 @@
 // The lines that are read: the clean mark, `00` or `01`, then a frame a line, two lower-case hexadecimal digits a byte. A newline ends
 // each.
-ghost use Rattle.std.specs.Prelude.{◌≡◌, ◌+◌, ◌++◌, ◌==◌, ◌<◌, List, ℕ, length, Some, IfSome, MatchOption};
+ghost use Rattle.std.specs.Prelude.{◌≡◌, ◌+◌, ◌++◌, ◌==◌, true, ◌<◌, List, ℕ, length, Some, IfSome, MatchOption};
 ghost use Rattle.std.specs.List.{list_all, position};
 ghost use Rattle.verdict_text.specs.Read.{is_digit, cut, mark_of, frame_of, frames_in, store_in};
 ghost use Rattle.verdict_text.specs.Steps.{Holds};
 
 use hex::FromHex;
-use judge::frames::{FRAME, is_in_range};
+use judge::frames::{FRAME, is_in_range, operator};
+use judge::operators;
 use judge::verdict::MOST_PAIRS;
 
 /// The room that the frames of a judgement take.
@@ -48,15 +49,15 @@ fn read_mark(line: &[u8]) -> Option<bool>
     }
 }
 
-// A frame whose codes and facts are in range.
-fn read_frame(line: &[u8]) -> Option<[u8; FRAME]>
-    ensures { result ≡ frame_of line.now }
+// A frame whose codes, facts and operator are in range; `volume`: of the volume record.
+fn read_frame(volume: bool, line: &[u8]) -> Option<[u8; FRAME]>
+    ensures { result ≡ frame_of volume line.now }
 {
     if !is_lower_hex(line) {
         return None;
     }
     let frame = <[u8; FRAME]>::from_hex(line).ok()?;
-    is_in_range(&frame).then_some(frame)
+    (is_in_range(&frame) && operators::is_in_range(volume, operator(&frame))).then_some(frame)
 }
 
 // Puts a frame behind so many others, where there is room for it.
@@ -71,13 +72,13 @@ fn hold(frames: &mut [u8; FRAMES], pairs: usize, frame: &[u8; FRAME])
 // Reads the frames of lines, and tells how many they are. As many as there is room for stand at the start of `frames`; a line after them is
 // read as well, since a bad one comes before too many.
 fn read_frames(text: &[u8], frames: &mut [u8; FRAMES]) -> Option<usize>
-    ensures { MatchOption result (frames_in text.now ≡ None) (λ n. (read : List ℕ) × (frames_in text.now ≡ Some read) × Holds frames.new n read) }
+    ensures { MatchOption result (frames_in true text.now ≡ None) (λ n. (read : List ℕ) × (frames_in true text.now ≡ Some read) × Holds frames.new n read) }
 {
     let mut lines = text;
     let mut pairs = 0;
     while !lines.is_empty() {
         let (line, others) = cut(lines, b'\n')?;
-        let frame = read_frame(line)?;
+        let frame = read_frame(pairs == 0, line)?;
         hold(frames, pairs, &frame);
         pairs += 1;
         lines = others;

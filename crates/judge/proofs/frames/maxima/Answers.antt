@@ -9,4 +9,4 @@ returns c =
     let s = c.args.frames.now in
     let room = pair_count s * verdict_width in
     rw (by_row s c.args.clean room, eq-eqb room room refl)
-    (rw (c.is_empty.ensures, c.as_chunks.ensures.back_len, c.as_chunks.ensures.front_len, c.as_chunks.ensures.front) at c.admit.ensures)
+    (rw (c.is_empty.ensures, c.as_chunks.ensures.back_len, c.as_chunks.ensures.front_len, c.as_chunks.ensures.front) at c.maxima.ensures)

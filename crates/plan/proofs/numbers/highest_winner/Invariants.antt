@@ -6,5 +6,5 @@ use Rattle.plan.proofs.numbers.highest_winner.Given as goal
 
 abbrev pub invariant-loop-frame : goal.invariant-loop-frame
 invariant-loop-frame l = record {
-  rest : max l.most (highest_winner (map pair_from (drop l.frame-index l.pairs))) ≡ highest_winner (map pair_from l.pairs);
+  rest : max l.most (highest_winner l.operator (map pair_from (drop l.frame-index l.pairs))) ≡ highest_winner l.operator (map pair_from l.pairs);
 }
