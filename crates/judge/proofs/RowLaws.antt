@@ -1,5 +1,5 @@
 -- What the passes leave of a row is its judgement, whatever the verdicts are kept in.
-use Rattle.std.proofs.Common.{◌≡◌, refl, ap, ◌∙◌, Bool, true, ◌&&◌, List, [], ◌∷◌, ◌++◌, ℕ, zero, suc, ◌+◌, ◌<◌, length, map, set, take, drop, arith, add-one, false, eqb, leb, slice_get, Option, Some, None, Result, Ok, OnOk, OnErr, subst}
+use Rattle.std.proofs.Common.{◌≡◌, refl, ap, ◌∙◌, Bool, true, List, [], ◌∷◌, ◌++◌, ℕ, zero, suc, ◌+◌, ◌<◌, length, map, set, take, drop, arith, add-one, false, eqb, leb, slice_get, Option, Some, None, Result, Ok, OnOk, OnErr, subst}
 use Rattle.std.specs.Option.{option_or}
 use Rattle.std.specs.List.{list_all}
 use Rattle.std.proofs.lemmas.List.{drop-set-lt, take_more_set}
@@ -14,7 +14,7 @@ use Rattle.judge.specs.declared.verdict.JudgeError.{JudgeError}
 use Rattle.judge.specs.Operators.{operators_in_range}
 use Rattle.judge.specs.Maxima.{no_counts, note_two, note_pairs}
 use Rattle.judge.specs.Verdict.{in_flight}
-use Rattle.judge.specs.Judge.{demoted, pair_heal, first_verdicts, first_tally, volume_verdict, store_rules, last_verdicts, writable, row_rules, verdicts, judgement, error, unless, left}
+use Rattle.judge.specs.Judge.{demoted, pair_heal, first_verdicts, first_tally, volume_verdict, store_rules, last_verdicts, writable, row_rules, verdicts, judgement, unless, left}
 use Rattle.judge.specs.Owners.{owners, any_two_differ}
 use Rattle.judge.specs.Passes.{verdicts_by, no_tally, tallies, heals}
 use Rattle.judge.specs.Same.{mark}
@@ -28,13 +28,6 @@ answered (Some e) x m is = (cc, cc)
 pub answer : {A : Type 0} (e : Option JudgeError) (x y : A) → ◌≡◌ {A = Result (Unit {0}) JudgeError} (Ok tt) (unless e tt) → x ≡ y → Ok x ≡ unless e y
 answer None x y none same = ap Ok same
 answer (Some e) x y none same = cc
-
--- Then all values are in range.
-pub in-range : (empty over whole fits within : Bool) → error empty over whole fits within ≡ None → within ≡ true
-in-range empty over whole fits within none = grind (arith, none)
-
-pub operators-known : (clean parts operators : Bool) → clean && (parts && operators) ≡ true → operators ≡ true
-operators-known clean parts operators is = grind (arith, is)
 
 head-is : (vs : List PairVerdict) (v : PairVerdict) → slice_get vs 0 ≡ Some v → v ≡ volume_verdict vs
 head-is [] v is = cc
