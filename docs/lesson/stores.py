@@ -1,10 +1,10 @@
 #!/usr/bin/env python3
 """The stores of the lesson, read from docs/TRAINING.md, which is their one source: what was written, what is found in the slots, and the
-judge's answer. From here come the input of `verdicts` and the pictures.
+judge's answer. From here come the input of `verdicts`, the pictures and the page.
 
     docs/lesson/stores.py list           the names of all stores
     docs/lesson/stores.py input STORE    the input of `verdicts`
-    docs/lesson/stores.py json           all that is read
+    docs/lesson/stores.py json           all that is read, for the page and the test
     docs/lesson/stores.py words          the words of an answer of `verdicts`, which it reads
     docs/lesson/stores.py check PROGRAM  runs every input through the program, and compares codes and words
 """
@@ -274,6 +274,7 @@ def word(words, name, code):
     return words[name][code]["word"]
 
 
+# The page says the same in docs/lesson/view.js, and docs/lesson/check.js holds it to what is said here.
 def pair_words(words, place, codes):
     """What four codes say of a pair."""
     standing, winner, a, b = bytes.fromhex(codes)
