@@ -2,7 +2,8 @@
 // happened, cuts writes, and hands slots over to be read and judged. Each plan, status, verdict and record is the library's.
 'use strict';
 
-const LOG2_SLOT = 12, SLOT = 1 << LOG2_SLOT, SECTOR = 512, BLOCK = 4096n;
+// A block is as large as a slot.
+const LOG2_SLOT = 12, SLOT = 1 << LOG2_SLOT, SECTOR = 512, BLOCK = BigInt(SLOT);
 const VOLUME0 = 0x6f692d65726f7473n, VOLUME1 = 0x206e6f7373656c20n;     // "store-io lesson "
 const FILE_LEN = 256n * BLOCK;
 const A = 0, B = 1;
@@ -11,7 +12,7 @@ const A = 0, B = 1;
 const REGIONS = [['stops', 96], ['lines', 104], ['zones', 112], ['passes', 120], ['refused cards', 128], ['fares', null], ['keys', 136],
     ['texts', 144], ['sounds', 152], ['journeys', 160]];
 const OTHER_REGIONS = [['lists', 168], ['log', 176]];
-const GROWING = ['journeys', 'log'], FARES = 5, REGION_BLOCKS = 8n;
+const GROWING = ['journeys', 'log'], FARES = REGIONS.findIndex(([name]) => name === 'fares'), REGION_BLOCKS = 8n;
 
 // The byte that goes bad: of the header one of the reserved zeros, of the payload the first letter of a name.
 const HARMED = { header: 104, payload: 160 };

@@ -92,10 +92,11 @@ def markdown(lines):
 
 def store_section(store):
     kind, number = store["name"].split("-")
-    written = "\n".join(f"<li>{inline(text)}</li>" for text in store["written"])
+
     def told(key):
         return f"<p><b>{stores.PARAGRAPHS[key]}.</b> {inline(store[key])}</p>"
 
+    written = "\n".join(f"<li>{inline(text)}</li>" for text in store["written"])
     return f"""<section class="store" id="{store['name']}" aria-labelledby="{store['name']}-title">
 <h3 id="{store['name']}-title">{kind.capitalize()} {number}: {inline(store['title'])}</h3>
 <p>{inline(store['intro'])}</p>
@@ -142,7 +143,7 @@ def data(value):
 
 def page_data(lesson):
     """What the scripts need of the lesson; its text is in the page already."""
-    kept = ("name", "written", "events", "operators", "answer")
+    kept = ("name", "events", "operators", "answer")
     return {
         "words": lesson["words"],
         "fares": lesson["fares"],

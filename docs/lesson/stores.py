@@ -368,8 +368,6 @@ def main(arguments):
         case ["input", name] if any(store["name"] == name for store in lesson["stores"]):
             print(verdicts_input(lesson["words"], next(store for store in lesson["stores"] if store["name"] == name)), end="")
         case ["json"]:
-            for store in lesson["stores"]:
-                store["input"] = verdicts_input(lesson["words"], store)
             print(json.dumps(lesson, ensure_ascii=False, indent=1))
         case ["words"]:
             print("\n".join(answer_words(lesson["words"], sys.stdin.read().split())))

@@ -153,8 +153,8 @@ function viewOf(medium, C, lesson) {
         if (record === null) return `Pair ${pair}: no record`;
         const from = `Pair ${pair}, from ${'AB'[record.index]}: generation ${record.generation}`;
         if (record.refusal !== undefined) return `${from}, and its decoder refuses it with ${record.refusal}`;
-        const pages = count => count === 1 ? '1 page' : `${count} pages`;
-        if (pair === 0) return `${from}, a volume record of owner ${record.owner} that counts ${pages(record.pages)}`;
+        const pages = record.pages === 1 ? '1 page' : `${record.pages} pages`;
+        if (pair === 0) return `${from}, a volume record of owner ${record.owner} that counts ${pages}`;
         const faulty = record.entries.filter(entry => entry.refusal !== undefined).length, fares = medium.faresOf(record);
         return [`${from}, a page of ${record.entries.length} entries`, ...faulty ? [`${faulty} refused`] : [],
             ...fares ? [`the fares at block ${fares.block}`] : []].join(', ');
@@ -196,6 +196,6 @@ function viewOf(medium, C, lesson) {
             [row('the bytes of slot A', a), row('the bytes of slot B', b), judges]);
     }
 
-    return { word, judge, standingOf, winnerOf, verdictOf, meaningOf, healOf, pairWords, planWords, answerWords, answerCodes, finished,
-        drawAnswer, drawSlots, drawRecords, drawSums };
+    return { word, judge, standingOf, winnerOf, verdictOf, meaningOf, healOf, planWords, answerWords, answerCodes, finished, drawAnswer,
+        drawSlots, drawRecords, drawSums };
 }
