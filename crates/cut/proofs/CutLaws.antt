@@ -1,13 +1,13 @@
 -- The slot that a cut write left, by its header: the new one, the old one, or one whose magic stands and which fails its checksum. That
 -- is the only place where it counts how the write was cut.
-use Rattle.std.proofs.Common.{◌≡◌, refl, sym, ap, ◌∙◌, ◌⊎◌, inl, inr, Bool, true, false, cond, ◌==◌, nat_eq, nat_le, List, [], ◌∷◌, ◌++◌, ℕ, zero, suc, ◌+◌, ◌≤◌, ◌<◌, arith, get_or, eqb-true, leb-true, leb-false, length, take, drop, length-append, length-take, length-drop, take-take, take-append-drop, take_at, length-take-le}
+use Rattle.std.proofs.Common.{◌≡◌, refl, sym, ap, ap₂, ◌∙◌, ◌⊎◌, inl, inr, Bool, true, false, cond, ◌==◌, nat_eq, nat_le, List, [], ◌∷◌, ◌++◌, ℕ, zero, suc, ◌+◌, ◌≤◌, ◌<◌, arith, get_or, eqb-true, leb-true, leb-false, length, take, drop, length-append, length-take, length-drop, take-take, take-append-drop, take_at, drop_at, take-add, length-take-le}
 use Rattle.std.proofs.Math.Seq.{take-append-le}
 use lib.Pointwise.{pointwise, bytes_decides}
 use Rattle.codec.specs.Bytes.{AllBytes, le16, le32}
 use Rattle.slot.specs.Header.{magic}
 use Rattle.slot.specs.Read.{header_sum}
 use Rattle.slot.proofs.Tests.{both}
-use Rattle.cut.specs.Cut.{Tear, Ascending, Sectors, cut, torn, CutPoint, Possible, stands_whole, header_passes, Accident, SectorAccident, AccidentBy}
+use Rattle.cut.specs.Cut.{Tear, Ascending, Sectors, cut, torn, CutPoint, Possible, stands_whole, header_passes, payload_in, Accident, SectorAccident, AccidentBy}
 use Rattle.cut.specs.Laws.{FailedSum, FailedPayload, OlderAtMost}
 use Rattle.cut.proofs.StatusLaws.{false_true}
 use Rattle.cut.proofs.SectorLaws.{sector_byte, length_sectors, within_sector}
@@ -21,6 +21,29 @@ not_same s t differ = go (pointwise nat_eq s t) refl
 
 pub differ : (s t : List ℕ) → pointwise nat_eq s t ≡ false → s ≡ t → ⊥
 differ s t not_equal is = false_true {A = ⊥} not_equal ((bytes_decides s t).1 is)
+
+-- ---- header and payload
+
+payload_front : (s payload : List ℕ) → 128 ≤ length s → payload_in s payload ≡ drop 128 (take (128 + length payload) s)
+payload_front s payload long =
+    sym
+    (ap (drop 128) (take-add 128 (length payload) s) ∙ drop_at (take 128 s) (payload_in s payload) 128 (length-take-le 128 s long))
+
+-- Two slots that begin alike have the same header and the same payload,
+pub front_parts : (s t payload : List ℕ) → 128 ≤ length s → 128 ≤ length t → take (128 + length payload) s ≡ take (128 + length payload) t
+    → (take 128 s ≡ take 128 t) × (payload_in s payload ≡ payload_in t payload)
+front_parts s t payload long_s long_t same = (
+  sym (take-take 128 (128 + length payload) s (omega arith)) ∙ ap (take 128) same ∙ take-take 128 (128 + length payload) t (omega arith),
+  payload_front s payload long_s ∙ ap (drop 128) same ∙ sym (payload_front t payload long_t),
+)
+
+-- and where both are the new ones the new record stands whole.
+pub whole_by : (s new payload : List ℕ) → take 128 s ≡ take 128 new → payload_in s payload ≡ payload_in new payload
+    → stands_whole s new payload ≡ true
+unfolding stands_whole
+whole_by s new payload same_header same_payload =
+    (bytes_decides (take (128 + length payload) s) (take (128 + length payload) new)).1
+    (take-add 128 (length payload) s ∙ ap₂ ◌++◌ same_header same_payload ∙ sym (take-add 128 (length payload) new))
 
 -- ---- the bytes of a cut in ascending order
 

@@ -1,5 +1,5 @@
 -- The pair as a write to the slot beside its winner left it, cut or finished.
-use Rattle.std.proofs.Common.{◌≡◌, refl, sym, ap, subst, ◌∙◌, ◌⊎◌, inl, inr, true, false, ◌&&◌, ◌==◌, nat_le, List, [], ◌∷◌, ℕ, zero, suc, ◌≤◌, ◌<◌, arith, eqb-true, length, take, get_or, get_or-take, lit<}
+use Rattle.std.proofs.Common.{◌≡◌, refl, sym, ap, subst, ◌∙◌, ◌⊎◌, inl, inr, true, false, ◌&&◌, ◌==◌, nat_le, List, [], ◌∷◌, ℕ, zero, suc, ◌+◌, ◌≤◌, ◌<◌, arith, eqb-true, length, take, get_or, get_or-take, lit<}
 use Rattle.std.specs.List.{list_all}
 use Rattle.codec.specs.Bytes.{AllBytes, le16, le32}
 use Rattle.codec.specs.Crc32c.{crc32c}
@@ -16,7 +16,8 @@ use Rattle.cut.proofs.StatusLaws.{passed_is}
 use Rattle.cut.proofs.CutLaws.{torn_byte, torn_bytes, length_torn, Header, torn_header}
 use Rattle.cut.proofs.StateLaws.{Short, beside, asked, Leads, Resting, Flying, under_check}
 use Rattle.cut.proofs.NextLaws.{length_bytes, length_short, Next, wins, next_resting, next_flying}
-use Rattle.cut.proofs.WriteLaws.{BesideWinner, old_is, old_size, new_size, new_bytes, new_magic, new_header, new_payload, fitting, new_beside, new_short}
+use Rattle.cut.proofs.WrittenLaws.{Writes, new_size, new_bytes, new_magic, new_header, new_payload, sizes_same}
+use Rattle.cut.proofs.WriteLaws.{BesideWinner, old_is, writes, fitting, new_beside, new_short}
 
 -- ---- the length in the header stays short
 
@@ -63,8 +64,8 @@ module _ {n : ℕ} (w : Write) (made : BesideWinner n w) (below : made.correct.w
       × Resting (with_slot w.index (new w) w.pair) w.index (info_of w.fields w.payload)
       × (payload_of (info_of w.fields w.payload) (slot_at w.index (with_slot w.index (new w) w.pair)).bytes ≡ w.payload)
   finished_wins =
-      wins w.pair w.index made.correct.winner made.leads (new w) (new_beside w made) (new_bytes w made) n below (fitting w made) (new_header w made)
-      (new_payload w made)
+      wins w.pair w.index made.correct.winner made.leads (new w) (new_beside w made) (new_bytes w (writes w made)) n below (fitting w made) (new_header w (writes w made))
+      (new_payload w (writes w made))
 
 -- ---- cut
 
@@ -78,21 +79,24 @@ module _ {n : ℕ} (w : Write) (made : BesideWinner n w) (below : made.correct.w
   abbrev c : List ℕ
   c = left w
 
+  abbrev wrote : Writes (made.correct.winner.generation + 1) made.correct.winner.header_crc32c n w
+  wrote = writes w made
+
   sizes : length (old w) ≡ length (new w)
-  sizes = old_size w made ∙ sym (new_size w made)
+  sizes = sizes_same w wrote
 
   possible_new : Possible w.tear (length (new w))
-  possible_new = rw (new_size w made) possible
+  possible_new = rw (new_size w wrote) possible
 
   pub left_size : length (left w) ≡ length (beside (other w.index) w.pair)
   left_size = length_torn (new w) (old w) sizes w.tear possible_new ∙ new_beside w made
 
   pub left_bytes : AllBytes (left w)
-  left_bytes = torn_bytes (new w) (old w) sizes w.tear (new_bytes w made) (made.leads.slots w.index).typed.bytes
+  left_bytes = torn_bytes (new w) (old w) sizes w.tear (new_bytes w (writes w made)) (made.leads.slots w.index).typed.bytes
 
   left_header : Header c (beside x p) (new w)
   left_header =
-      subst (λ (s : List ℕ). Header c s (new w)) (sym (old_is w made)) (torn_header (new w) (old w) sizes w.tear possible_new (new_magic w made))
+      subst (λ (s : List ℕ). Header c s (new w)) (sym (old_is w made)) (torn_header (new w) (old w) sizes w.tear possible_new (new_magic w (writes w made)))
 
   pub left_short : Short (beside (other w.index) w.pair) → Short (left w)
   left_short short = record { low = low (torn_byte (new w) (old w) sizes w.tear 12); high = high (torn_byte (new w) (old w) sizes w.tear 13) }
@@ -120,7 +124,7 @@ module _ {n : ℕ} (w : Write) (made : BesideWinner n w) (below : made.correct.w
     left_resting resting =
         next_resting p w.index made.correct.winner made.leads c left_size left_bytes n below (fitting w made) (new w)
         (new_beside w made ∙ sym left_size)
-        (new_header w made) (new_payload w made)
+        (new_header w (writes w made)) (new_payload w (writes w made))
         (left_short (resting_short p x _ made.leads resting)) known m m_new none resting on_neither left_header
 
     pub left_flying : {before : List ℕ} → Flying w.pair (other w.index) made.correct.winner before known n
@@ -132,5 +136,5 @@ module _ {n : ℕ} (w : Write) (made : BesideWinner n w) (below : made.correct.w
     left_flying flying m_old none_old =
         next_flying p w.index made.correct.winner made.leads c left_size left_bytes n below (fitting w made) (new w)
         (new_beside w made ∙ sym left_size)
-        (new_header w made) (new_payload w made) (left_short (flying_short p x _ made.leads flying)) known m m_new none flying m_old none_old
+        (new_header w (writes w made)) (new_payload w (writes w made)) (left_short (flying_short p x _ made.leads flying)) known m m_new none flying m_old none_old
         on_neither left_header

@@ -7,6 +7,7 @@ pub mod PairLaws
 pub mod NumberLaws
 pub mod SectorLaws
 pub mod CutLaws
+pub mod WrittenLaws
 pub mod StateLaws
 pub mod NextLaws
 pub mod WriteLaws

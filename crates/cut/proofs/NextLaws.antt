@@ -1,5 +1,5 @@
 -- The pair after a write to the slot beside its winner, finished or cut: that slot rests, is in flight or has won.
-use Rattle.std.proofs.Common.{◌≡◌, refl, sym, ap, ap₂, subst, ◌∙◌, Bool, true, false, cond, ◌&&◌, nat_le, nat_eq, ◌==◌, List, ◌∷◌, ◌++◌, ℕ, suc, ◌+◌, ◌*◌, ◌≤◌, ◌<◌, le_of_eq, arith, lit≤, lit<, eq-eqb, eqb-true, length, take, drop, get_or, get_or-take, get_or-drop, replicate, take-add, drop_at, length-take-le}
+use Rattle.std.proofs.Common.{◌≡◌, refl, sym, ap, ap₂, subst, ◌∙◌, Bool, true, false, cond, ◌&&◌, nat_le, nat_eq, ◌==◌, List, ◌∷◌, ◌++◌, ℕ, suc, ◌+◌, ◌*◌, ◌≤◌, ◌<◌, le_of_eq, arith, lit≤, lit<, eq-eqb, eqb-true, length, take, drop, get_or, get_or-take, get_or-drop, replicate}
 use Rattle.std.specs.Int.{w16, w32}
 use Rattle.std.specs.List.{IsAmong, list_all}
 use Rattle.std.proofs.lemmas.Bool.{eqb-false}
@@ -26,8 +26,8 @@ use Rattle.cut.specs.Store.{Slot, Pair, accepts, slot_at, status, Typed, SoundSl
 use Rattle.cut.specs.Cut.{with_bytes, with_slot, stands_whole, header_passes, payload_in, payload_by}
 use Rattle.cut.proofs.StatusLaws.{false_true, passed_is, valid_is, passed_status}
 use Rattle.cut.proofs.PairLaws.{other_other, predecessor}
-use Rattle.cut.proofs.CutLaws.{not_same, differ, Header, not_whole}
-use Rattle.cut.proofs.StateLaws.{Short, beside, asked, Leads, Fitting, Older, Resting, Flying, under_header, under_check, under_info, under_payload}
+use Rattle.cut.proofs.CutLaws.{not_same, differ, front_parts, whole_by, Header, not_whole}
+use Rattle.cut.proofs.StateLaws.{Short, beside, asked, Leads, Fitting, Older, Resting, Flying, under_header, under_check, under_info, under_payload, under_passes}
 
 -- ---- a header of 128 bytes or fewer
 
@@ -168,11 +168,6 @@ pub data Next (p : Pair) (o : SlotIndex) (i : SlotInfo) (r m : List ℕ) (known 
   won : (j : SlotInfo) → Leads p o j → Resting p o j → j.meta_seq ≡ n → Read whole r known (payload_of j (slot_at o p).bytes)
       → Next p o i r m known n whole
 
-payload_front : (s payload : List ℕ) → 128 ≤ length s → payload_in s payload ≡ drop 128 (take (128 + length payload) s)
-payload_front s payload long =
-    sym
-    (ap (drop 128) (take-add 128 (length payload) s) ∙ drop_at (take 128 s) (payload_in s payload) 128 (length-take-le 128 s long))
-
 pub among_first : (r : List ℕ) (known : List (List ℕ)) → IsAmong (r ∷ known) r
 among_first r known = (0, (omega arith, refl))
 
@@ -257,10 +252,7 @@ module _ (p : Pair) (o : SlotIndex) (i : SlotInfo) (leads : Leads p (other o) i)
         }
 
     checksum_is : passes_payload c (header c) ≡ (crc32c (payload_in c q) == crc32c q)
-    unfolding passes_payload
-    checksum_is =
-        ap₂ (λ (s : List ℕ) (h : SlotHeader). crc32c s == h.payload_crc32c) (under_payload p (other o) i leads fit c size head)
-        (under_header p (other o) i leads fit c size head)
+    checksum_is = under_passes p (other o) i leads fit c size head
 
     begun_put : {known : List (List ℕ)} → passes_payload c (header c) ≡ false → IsAmong known q → Flying p' (other o) i q known n
     begun_put bad among =
@@ -311,19 +303,11 @@ module _ (p : Pair) (o : SlotIndex) (i : SlotInfo) (leads : Leads p (other o) i)
     abbrev Answer : Type 0
     Answer = Next p' o i r m known n (stands_whole c new r)
 
-    whole_new : take 128 c ≡ take 128 new → payload_in c r ≡ r → stands_whole c new r ≡ true
-    unfolding stands_whole
-    whole_new same_header same_payload =
-        (bytes_decides (take (128 + length r) c) (take (128 + length r) new)).1
-        (take-add 128 (length r) c ∙ ap₂ ◌++◌ same_header (same_payload ∙ sym new_payload) ∙ sym (take-add 128 (length r) new))
-
     torn_new : (payload_in c r ≡ r → ⊥) → stands_whole c new r ≡ false
     unfolding stands_whole
     torn_new other_payload =
         not_same (take (128 + length r) c) (take (128 + length r) new)
-        (λ same.
-        other_payload
-        (payload_front c r long ∙ ap (drop 128) same ∙ sym (payload_front new r (omega (arith, new_size, long))) ∙ new_payload))
+        (λ same. other_payload ((front_parts c new r long (omega (arith, new_size, long)) same).1 ∙ new_payload))
 
     on_new : take 128 c ≡ take 128 new → Answer
     on_new same_header = by_bytes (pointwise nat_eq (payload_in c r) r) refl
@@ -345,7 +329,7 @@ module _ (p : Pair) (o : SlotIndex) (i : SlotInfo) (leads : Leads p (other o) i)
             let same = (bytes_decides (payload_in c r) r).0 equal in
             let w = wins fit head same in
             Next.won (info_of f r) w.0 w.1 fit.number
-            (subst (λ (q : List ℕ). Read (stands_whole c new r) r known q) (sym w.2) (Read.fresh (whole_new same_header same)))
+            (subst (λ (q : List ℕ). Read (stands_whole c new r) r known q) (sym w.2) (Read.fresh (whole_by c new r same_header (same ∙ sym new_payload))))
         by_bytes false unequal = by_sum (differ (payload_in c r) r unequal) (passes_payload c (header c)) refl
 
     on_failing : (take 128 c ≡ take 128 new → ⊥) → take 8 c ≡ magic → header_passes c ≡ false → Answer

@@ -1,6 +1,6 @@
 -- A pair between two writes: its winner stands, and the slot beside it rests or is the write in flight. What the judge makes of it, and
 -- what is read back. By the winner's index x and info i.
-use Rattle.std.proofs.Common.{◌≡◌, refl, sym, ap, ap₂, ◌∙◌, Bool, true, false, cond, List, ◌++◌, ℕ, ◌+◌, ◌^◌, ◌≤◌, ◌<◌, arith, le-ltb, length, get_or, take, drop, take-append-drop, Option, Some, None, Ok}
+use Rattle.std.proofs.Common.{◌≡◌, refl, ap, ◌∙◌, Bool, true, false, cond, ◌==◌, List, ℕ, ◌+◌, ◌^◌, ◌≤◌, ◌<◌, arith, length, get_or, take, Option, Some, None, Ok}
 use Rattle.codec.specs.Bytes.{le32}
 use Rattle.codec.specs.Crc32c.{crc32c}
 use Rattle.slot.specs.Status.{other}
@@ -16,7 +16,7 @@ use Rattle.slot.specs.declared.slot.SlotFields.{SlotFields}
 use Rattle.slot.specs.declared.slot.SlotStatus.{SlotStatus}
 use Rattle.slot.specs.declared.slot.HeaderFacts.{HeaderFacts}
 use Rattle.slot.specs.declared.slot.Expect.{Expect}
-use Rattle.slot.proofs.RoundTripLaws.{Proper, header-is, check_written}
+use Rattle.slot.proofs.RoundTripLaws.{Proper}
 use Rattle.std.specs.List.{IsAmong}
 use Rattle.pair.specs.Pair.{winner_info}
 use Rattle.judge.specs.declared.verdict.SlotVerdict.{SlotVerdict}
@@ -24,6 +24,7 @@ use Rattle.cut.specs.Store.{Pair, accepts, slot_at, status, report, SoundSlot, B
 use Rattle.cut.specs.Cut.{header_passes, payload_in}
 use Rattle.cut.proofs.StatusLaws.{passed_is, blank_is, valid_is, bad_status, bad_facts, passed_facts, passed_status}
 use Rattle.cut.proofs.JudgeLaws.{Quiet}
+use Rattle.cut.proofs.WrittenLaws.{stored_under, check_under, info_under, payload_under, passes_under}
 use Rattle.cut.proofs.PairLaws.{number_at, predecessor, Stands, beside_valid, beside_blank, beside_predecessor, beside_unread, beside_new, beside_old, blank_number, valid_number, torn_number, bad_number}
 
 -- The header's length is 128 or less, byte by byte.
@@ -190,27 +191,23 @@ module _ (p : Pair) (x : SlotIndex) (i : SlotInfo) (leads : Leads p x i) where
 
   module _ {f : SlotFields} {m : List ℕ} {n : ℕ} (fit : Fitting p x i f m n) (c : List ℕ) (size : length c ≡ length (beside x p))
       (head : take 128 c ≡ written_header f m) where
-    parts : written_header f m ++ drop 128 c ≡ c
-    parts = ap (λ (l : List ℕ). l ++ drop 128 c) (sym head) ∙ take-append-drop 128 c
-
     within : 128 + length m ≤ length c
     within = let fits = fit.fits in omega (arith, size)
 
     pub under_header : header c ≡ stored_header (header_crc f m) f (length m) (crc32c m)
-    under_header = ap header (sym parts) ∙ header-is fit.proper m (drop 128 c) fit.small
+    under_header = stored_under m fit.proper fit.small c within head
 
     pub under_check : check c (header c) (asked x p) ≡ Ok tt
-    under_check =
-        ap (λ (h : Header). check c h e) under_header
-        ∙ ap₂ (λ (t : List ℕ) (a : Expect). check t (stored_header (header_crc f m) f (length m) (crc32c m)) a) (sym parts) (sym fit.asked_is)
-        ∙ check_written fit.proper m (drop 128 c) fit.small (rw parts within)
+    under_check = check_under m fit.proper fit.small c within head fit.asked_is
 
     pub under_info : header_info (header c) ≡ info_of f m
-    under_info = ap header_info under_header
+    under_info = info_under m fit.proper fit.small c within head
 
     pub under_payload : payload_of (header_info (header c)) c ≡ payload_in c m
-    unfolding payload_of
-    under_payload = ap (λ (j : SlotInfo). payload_of j c) under_info ∙ simp (le-ltb _ _ within)
+    under_payload = payload_under m fit.proper fit.small c within head
+
+    pub under_passes : passes_payload c (header c) ≡ (crc32c (payload_in c m) == crc32c m)
+    under_passes = passes_under m fit.proper fit.small c within head
 
   -- ---- the write in flight
 

@@ -19,16 +19,18 @@ use Rattle.judge.specs.Part.{version_of_header, version_of_facts, header_number,
 use Rattle.judge.specs.declared.pairs.Version.{Version}
 use Rattle.judge.specs.Same.{filled}
 use Rattle.judge.specs.declared.part.SlotPart.{SlotPart}
+use Rattle.judge.specs.Operators.{operators_in_range}
 use Rattle.meta.specs.Volume.{decode_volume}
 use Rattle.meta.specs.declared.meta.MetaError.{MetaError}
 use Rattle.meta.specs.declared.meta2.VolumeMeta2.{VolumeMeta2}
 use Rattle.meta.proofs.VolumeLaws.{volume_decoded}
-use Rattle.cut.specs.Store.{Every, mark_by, clean_mark, Slot, Pair, slot_at, status, report, frames, Beside, SoundPair, IsPage, Sound}
+use Rattle.cut.specs.Store.{Every, mark_by, clean_mark, Slot, Pair, slot_at, status, report, shown, frames, Beside, SoundPair, IsPage, IsRow}
 use Rattle.cut.specs.Cut.{Tear, Ascending, Write, store, size, old, new, cut, torn, left, next_number, CutPoint, CorrectWrite, Accident, payload_by, SectorAccident, is_empty, handed, PayloadIs}
 use Rattle.cut.specs.Laws.{of_operator, SoundUnderAny, UnmarkedRecord, UnmarkedStore, PageHanded, TornHanded, WholeHanded, OldHeaderKept, NoneInOrder, zeros, PairFrame, OnePayload, HasSlots}
 use Rattle.cut.proofs.PairLaws.{last_is}
 use Rattle.cut.proofs.CutLaws.{kept_by_header}
-use Rattle.cut.proofs.WriteLaws.{BesideWinner, sound_beside, sound_resting, old_size, new_size, header_differs}
+use Rattle.cut.proofs.WrittenLaws.{new_size, sizes_same}
+use Rattle.cut.proofs.WriteLaws.{BesideWinner, writes, sound_beside, sound_resting, header_differs}
 
 -- ---- the operators
 
@@ -55,9 +57,12 @@ pages_under : (ps : List Pair) → Every IsPage (map (of_operator 0) ps) → Eve
 pages_under [] Every.none = Every.none
 pages_under (p ∷ ps) (Every.more page rest) = Every.more (record { index = page.index; most = page.most; decoder = page.decoder }) (pages_under ps rest)
 
+row_under : (ps : List Pair) → IsRow (map (of_operator 0) ps) → operators_in_range true (shown ps) ≡ true → IsRow ps
+row_under [] none range = elim none [ ]
+row_under (p ∷ ps) (IsRow.row volume pages known) range = IsRow.row volume (pages_under ps pages) range
+
 pub sound_under_any : SoundUnderAny
-sound_under_any [] none range = elim none [ ]
-sound_under_any (p ∷ ps) (Sound.row volume pages known all) range = Sound.row volume (pages_under ps pages) range (pairs_under (p ∷ ps) all)
+sound_under_any ps sound range = record { row = row_under ps sound.row range; pairs = pairs_under ps sound.pairs }
 
 -- ---- the store's mark
 
@@ -106,7 +111,7 @@ module _ (w : Write) (k : ℕ) (sound : SoundPair w.pair) (correct : CorrectWrit
   kept : take 128 (left w) ≡ take 128 (old w) → left w ≡ old w
   kept is =
       left_is
-      ∙ kept_by_header k (new w) (old w) (old_size w made ∙ sym (new_size w made)) (rw (new_size w made) point)
+      ∙ kept_by_header k (new w) (old w) (sizes_same w (writes w made)) (rw (new_size w (writes w made)) point)
       (λ same. header_differs w made (sound_resting w sound correct) (sym same)) (ap (take 128) (sym left_is) ∙ is)
 
   none_other : SectorAccident (left w) (old w) (new w) w.payload → Accident (left w) (old w) (new w) w.payload

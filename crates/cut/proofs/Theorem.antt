@@ -14,7 +14,7 @@ use Rattle.judge.specs.Judge.{volume_verdict, mark_counts, judgement, most_pairs
 use Rattle.judge.specs.Frames.{verdict_width}
 use Rattle.judge.specs.declared.verdict.SlotVerdict.{SlotVerdict}
 use Rattle.judge.specs.declared.verdict.PairVerdict.{PairVerdict}
-use Rattle.cut.specs.Store.{Every, Slot, Pair, slot_at, shown, last_record, SoundPair, Sound}
+use Rattle.cut.specs.Store.{Every, Slot, Pair, slot_at, shown, last_record, SoundPair, IsRow}
 use Rattle.cut.specs.Cut.{Write, store, size, old, new, left, with_slot, after, next_number, Possible, CorrectWrite, whole, Accident, is_empty, handed, Survives, CutTheorem}
 use Rattle.cut.specs.Laws.{OlderSurvived}
 use Rattle.cut.proofs.EveryLaws.{every_split, same_length}
@@ -47,11 +47,8 @@ row_unmarked (Every.more rested rest) mark index vs explained flight = refl
 
 -- ---- the pairs of the store
 
-pub sound_pairs : {ps : List Pair} → Sound ps → Every SoundPair ps
-sound_pairs (Sound.row volume pages range all) = all
-
-pub sound_range : {ps : List Pair} → Sound ps → operators_in_range true (shown ps) ≡ true
-sound_range (Sound.row volume pages range all) = range
+pub row_range : {ps : List Pair} → IsRow ps → operators_in_range true (shown ps) ≡ true
+row_range (IsRow.row volume pages range) = range
 
 -- ---- the written pair
 
@@ -207,8 +204,8 @@ module _ (w : Write) (sound_before : Every SoundPair w.before) (sound : SoundPai
 -- The store's clean mark plays no part: the judge is handed false, or a mark that meets no candidate.
 pub older_survived : OlderSurvived
 older_survived w sound few no_mark correct possible none out room =
-    let all = every_split w.before w.pair w.behind (sound_pairs sound) in
-    survives w all.0 all.1 all.2 correct possible none few (sound_range sound) out room
+    let all = every_split w.before w.pair w.behind sound.pairs in
+    survives w all.0 all.1 all.2 correct possible none few (row_range sound.row) out room
 
 -- Nor does what sectors add to the accidents.
 pub cut_theorem : CutTheorem

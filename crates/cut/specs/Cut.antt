@@ -113,22 +113,20 @@ Possible (Sectors reached) size = Unit {0}
 abbrev pub next_number : List Pair → Pair → ℕ
 next_number ps p = highest (numbers p.operator (shown ps)) + 1
 
--- Correct write with a number n: for the slot that is not the winner, in format 2 with the identity and size that slot is read with,
--- generation one up, previous checksum the winner's, generation and number below 2^64, acceptable payload that fits the slot. The
--- owner generation, the compatible flags and the payload are of their types, and the buffer is of the slot's size.
-pub record CorrectWith (n : ℕ) (w : Write) : Type 0 where
-  pub winner : SlotInfo
-  pub won : winner_info (report w.pair) ≡ Some (other w.index, winner)
+-- What is written has this generation, previous checksum and number: in format 2 with the identity and size that its slot is read with,
+-- generation and number below 2^64, an acceptable payload that fits the slot. The owner generation, the compatible flags and the payload
+-- are of their types, and the buffer is of the slot's size.
+pub record Written (generation prev number : ℕ) (w : Write) : Type 0 where
   pub format : w.fields.format_major ≡ 2
   pub volume : w.fields.volume_uuid ≡ (expect w).volume_uuid
   pub object : w.fields.object_id ≡ (expect w).object_id
   pub offset : w.fields.slot_offset ≡ (expect w).slot_offset
   pub index : w.fields.slot_index ≡ (expect w).slot_index
   pub log2 : w.fields.log2_slot_size ≡ (expect w).log2_slot_size
-  pub generation : w.fields.generation ≡ winner.generation + 1
+  pub generation_is : w.fields.generation ≡ generation
   pub generation_fits : w.fields.generation < 2 ^ 64
-  pub prev : w.fields.prev_header_crc32c ≡ winner.header_crc32c
-  pub number : w.fields.meta_seq ≡ n
+  pub prev_is : w.fields.prev_header_crc32c ≡ prev
+  pub number_is : w.fields.meta_seq ≡ number
   pub number_fits : w.fields.meta_seq < 2 ^ 64
   pub owner : w.fields.owner_generation < 2 ^ 64
   pub compat : w.fields.compat_flags < 2 ^ 32
@@ -136,6 +134,12 @@ pub record CorrectWith (n : ℕ) (w : Write) : Type 0 where
   pub accepted : accepts w.pair.decoder w.payload ≡ true
   pub fits : 128 + length w.payload ≤ size w
   pub room : length w.buffer ≡ size w
+
+-- Correct write with a number n: for the slot that is not the winner, generation one up, previous checksum the winner's.
+pub record CorrectWith (n : ℕ) (w : Write) : Type 0 where
+  pub winner : SlotInfo
+  pub won : winner_info (report w.pair) ≡ Some (other w.index, winner)
+  pub written : Written (winner.generation + 1) winner.header_crc32c n w
 
 -- Correct write: its number is one above its operator's highest.
 abbrev pub CorrectWrite : Write → Type 0

@@ -162,7 +162,11 @@ pub record IsPage (p : Pair) : Type 0 where
   pub most : ℕ
   pub decoder : p.decoder ≡ Page index most
 
--- At least one pair; pair 0 is the volume record, the others are pages. Their operators are in range, that of pair 0 is 0.
-pub data Sound : List Pair → Type 0 where
-  row : {p : Pair} {ps : List Pair} → p.decoder ≡ Volume → Every IsPage ps → operators_in_range true (shown (p ∷ ps)) ≡ true → Every SoundPair (p ∷ ps)
-      → Sound (p ∷ ps)
+-- The row of a store: at least one pair; pair 0 is the volume record, the others are pages. Their operators are in range, that of pair 0
+-- is 0.
+pub data IsRow : List Pair → Type 0 where
+  row : {p : Pair} {ps : List Pair} → p.decoder ≡ Volume → Every IsPage ps → operators_in_range true (shown (p ∷ ps)) ≡ true → IsRow (p ∷ ps)
+
+pub record Sound (ps : List Pair) : Type 0 where
+  pub row : IsRow ps
+  pub pairs : Every SoundPair ps

@@ -23,7 +23,6 @@ pub fn refused_records()
 {}
 
 // A store whose numbers were counted for all its pairs together needs no change.
-#[tactic(auto, using(crate::proofs::StatementLaws::sound_under_any))]
 pub fn counted_before()
     ensures { SoundUnderAny }
 {}

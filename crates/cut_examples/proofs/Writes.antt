@@ -25,7 +25,7 @@ use Rattle.meta.specs.Block.{block_size, entries_per_page}
 use Rattle.meta.specs.Base.{base_at, check_base}
 use Rattle.meta.specs.Volume.{tail_at, check_tail, check_volume, decode_volume, volume_bytes as volume_record_bytes}
 use Rattle.meta.specs.Page.{header_at, decode_page, entries, header_row as page_header_row, header_bytes as page_header_bytes}
-use Rattle.cut.specs.Store.{Every, Decoder, Volume, Page, accepts, clean_mark, Pair, slot_at, status, report, shown, store_mark, Typed, SoundSlot, Beside, SoundPair, Sound}
+use Rattle.cut.specs.Store.{Every, Decoder, Volume, Page, accepts, clean_mark, Pair, slot_at, status, report, shown, store_mark, Typed, SoundSlot, Beside, SoundPair, IsRow, Sound}
 use Rattle.cut.specs.Cut.{Tear, Ascending, Sectors, Write, store, size, old, new, cut, torn, CutPoint, Possible, CorrectWith, CorrectWrite, stands_whole, whole, payload_in, Accident, payload_by, SectorAccident, AccidentBy, handed}
 use Rattle.cut_examples.specs.Stores.{volume_record, page_record, rest, fields, read_with, zeros_for, written_slot, blank_slot, volume_fields, volume_pair, older_fields, newer_fields, first_page, second_fields, second_page, new_fields, later_page, first_store, later_store}
 use Rattle.cut_examples.specs.Writes.{IsMet, MetIsEnough, write_to, page_write, marked_fields, volume_write, next_fields, second_write, later_fields, later_write, PageMet, VolumeMet, SecondMet, LaterMet, StandsWhole, MarkHanded}
@@ -243,10 +243,13 @@ store_with p = volume_pair ∷ p ∷ second_page ∷ []
 
 pub sound_with : (p : Pair) → p.decoder ≡ Page 0 41 → p.operator ≡ 0 → SoundPair p → Sound (store_with p)
 sound_with p page own sound =
-    Sound.row refl
-    (Every.more (record { index = 0; most = 41; decoder = page }) (Every.more (record { index = 1; most = 41; decoder = refl }) Every.none))
-    (rw own refl)
-    (Every.more volume_sound (Every.more sound (Every.more second_sound Every.none)))
+    record {
+      row =
+          IsRow.row refl
+          (Every.more (record { index = 0; most = 41; decoder = page }) (Every.more (record { index = 1; most = 41; decoder = refl }) Every.none))
+          (rw own refl);
+      pairs = Every.more volume_sound (Every.more sound (Every.more second_sound Every.none));
+    }
 
 pub unmarked_with : (p : Pair) → store_mark (store_with p) ≡ false
 unfolding volume_sound first_written volume_record_bytes
@@ -389,23 +392,26 @@ module _ (before : List Pair) (p : Pair) (behind : List Pair) (f : SlotFields) (
       record {
         winner = i;
         won = won;
-        format = format;
-        volume = ap (λ (e : Expect). e.volume_uuid) asked;
-        object = ap (λ (e : Expect). e.object_id) asked;
-        offset = ap (λ (e : Expect). e.slot_offset) asked;
-        index = ap (λ (e : Expect). e.slot_index) asked;
-        log2 = ap (λ (e : Expect). e.log2_slot_size) asked;
-        generation = generation;
-        generation_fits = fits.generation;
-        prev = prev;
-        number = number;
-        number_fits = fits.number;
-        owner = fits.owner;
-        compat = fits.compat;
-        bytes = payload_bytes;
-        accepted = accepted;
-        fits = room;
-        room = length-replicate (2 ^ f.log2_slot_size) 0;
+        written =
+            record {
+              format = format;
+              volume = ap (λ (e : Expect). e.volume_uuid) asked;
+              object = ap (λ (e : Expect). e.object_id) asked;
+              offset = ap (λ (e : Expect). e.slot_offset) asked;
+              index = ap (λ (e : Expect). e.slot_index) asked;
+              log2 = ap (λ (e : Expect). e.log2_slot_size) asked;
+              generation_is = generation;
+              generation_fits = fits.generation;
+              prev_is = prev;
+              number_is = number;
+              number_fits = fits.number;
+              owner = fits.owner;
+              compat = fits.compat;
+              bytes = payload_bytes;
+              accepted = accepted;
+              fits = room;
+              room = length-replicate (2 ^ f.log2_slot_size) 0;
+            };
       }
 
 -- The number is one above its operator's highest n.

@@ -199,13 +199,13 @@ module _ (before : List Tracked) (t : Tracked) (behind : List Tracked) (q : Put)
   plan_is : (most : ℕ) → allowed.number ≡ most + 1
       → plan_at q.index (followed (frame_report (f before t behind state))) most ≡ Ok (plan_of w)
   plan_is most is =
-      let generation = allowed.correct.generation in
-      let number : q.fields.meta_seq ≡ most + 1 = allowed.correct.number ∙ is in
-      let prev = allowed.correct.prev in
+      let generation = allowed.correct.written.generation_is in
+      let number : q.fields.meta_seq ≡ most + 1 = allowed.correct.written.number_is ∙ is in
+      let prev = allowed.correct.written.prev_is in
       ap (λ (r : ℕ × ℕ). plan_at q.index r most) follows_winner
       ∙ simp (
-        lt-ltb i.generation (2 ^ 64 - 1) (omega (arith, generation, allowed.correct.generation_fits)),
-        lt-ltb most (2 ^ 64 - 1) (omega (arith, number, allowed.correct.number_fits)),
+        lt-ltb i.generation (2 ^ 64 - 1) (omega (arith, generation, allowed.correct.written.generation_fits)),
+        lt-ltb most (2 ^ 64 - 1) (omega (arith, number, allowed.correct.written.number_fits)),
       )
       (ap₂ (λ (g : ℕ) (r : ℕ × ℕ). Ok (record { index = q.index; generation = g; prev_header_crc32c = r.0; meta_seq = r.1 })) (sym generation)
       (ap₂ (λ (a b : ℕ). (a, b)) (sym prev) (sym number)))

@@ -23,7 +23,8 @@ use Rattle.cut.proofs.PairLaws.{other_other, shown_pair, last_is}
 use Rattle.cut.proofs.CutLaws.{differ, not_same, not_whole}
 use Rattle.cut.proofs.StateLaws.{Short, beside, asked, Leads, Older, Resting, Flying, failing_status, passing_status, under_check, under_payload, sound_leads, sound_rests}
 use Rattle.cut.proofs.NextLaws.{among_first, among_later, kept_slot, put_slot, back_slot, front_passes, Read, Next, on_older}
-use Rattle.cut.proofs.WriteLaws.{BesideWinner, old_is, new_header, fitting}
+use Rattle.cut.proofs.WrittenLaws.{new_header}
+use Rattle.cut.proofs.WriteLaws.{BesideWinner, old_is, writes, fitting}
 use Rattle.cut.proofs.LeftLaws.{blank_fails, resting_short, flying_short, finished_wins, left_size, left_short, left_bytes, left_resting, left_flying}
 use Rattle.cut.proofs.RowLaws.{rested_stands}
 use Rattle.plan.specs.Numbers.{winner_number, highest_winner}
@@ -324,13 +325,13 @@ module _ (before : List Tracked) (t : Tracked) (behind : List Tracked) (q : Put)
         (HarmfulAccident.payload
         (record {
           passes =
-              (passed_is c _ (under_check t.pair x i al.led.leads (fitting wr made) c (left_size wr made below possible) (is ∙ new_header wr made))).sum_is;
+              (passed_is c _ (under_check t.pair x i al.led.leads (fitting wr made) c (left_size wr made below possible) (is ∙ new_header wr (writes wr made)))).sum_is;
           other = λ it. other_payload (sym in_place ∙ it ∙ under_new is);
           sum = ap crc32c in_place ∙ sum;
         }))
       where
         in_place : standing c ≡ payload_in c q.payload
-        in_place = under_payload t.pair x i al.led.leads (fitting wr made) c (left_size wr made below possible) (is ∙ new_header wr made)
+        in_place = under_payload t.pair x i al.led.leads (fitting wr made) c (left_size wr made below possible) (is ∙ new_header wr (writes wr made))
 
     abbrev After : Type 0
     After = Next p' index i q.payload after.under t.known n (whole wr)

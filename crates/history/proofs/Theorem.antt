@@ -7,12 +7,12 @@ use Rattle.slot.specs.declared.slot.SlotInfo.{SlotInfo}
 use Rattle.judge.specs.Operators.{operators_in_range}
 use Rattle.judge.specs.Judge.{most_pairs}
 use Rattle.judge.specs.declared.verdict.PairVerdict.{PairVerdict}
-use Rattle.cut.specs.Store.{Every, Pair, clean_mark, shown, store_mark, Sound}
+use Rattle.cut.specs.Store.{Every, Pair, clean_mark, shown, store_mark, IsRow}
 use Rattle.cut.specs.Cut.{Write, new, left, is_empty}
 use Rattle.cut.proofs.EveryLaws.{same_length}
 use Rattle.cut.proofs.StatusLaws.{false_true}
 use Rattle.cut.proofs.StatementLaws.{one_payload}
-use Rattle.cut.proofs.Theorem.{sound_pairs, sound_range}
+use Rattle.cut.proofs.Theorem.{row_range}
 use Rattle.cut.proofs.RowLaws.{range_kept}
 use Rattle.history.specs.History.{Past, Tracked, past, past_after, pairs, started, HistoryAccident, HarmfulAccident, write_to, finished, torn_by, Reached, AllReadKnown, VolumeUnmarked, HistoryTheorem}
 use Rattle.history.specs.Laws.{KnownRecords, ReadIsKnown, AsWritten, LinkAtMost, OnlyTheWritten, HarmfulAlone, HarmfulIsAccident}
@@ -21,11 +21,11 @@ use Rattle.history.proofs.Steps.{start_all, tracked_operator, tracked_known, und
 
 -- ---- the states that are reached
 
-sound_some : {ps : List Pair} → Sound ps → 1 ≤ length (map started ps)
-sound_some (Sound.row volume pages range all) = omega arith
+row_some : {ps : List Pair} → IsRow ps → 1 ≤ length (map started ps)
+row_some (IsRow.row volume pages range) = omega arith
 
 pub reached_state : {ts : List Tracked} → Reached HarmfulAccident ts → State ts
-reached_state (Reached.start sound few unmarked) = State.all_rest (sound_some sound) (start_all (sound_pairs sound))
+reached_state (Reached.start sound few unmarked) = State.all_rest (row_some sound.row) (start_all sound.pairs)
 reached_state (Reached.finish before t behind reached q allowed) = finish_state before t behind q (reached_state reached) allowed
 reached_state (Reached.cut before t behind reached q allowed possible none) =
     cut_state before t behind q (reached_state reached) allowed possible none
@@ -55,7 +55,7 @@ step_range before t u behind same range =
 
 pub reached_range : {ts : List Tracked} → Reached HarmfulAccident ts → operators_in_range true (shown (pairs ts)) ≡ true
 reached_range (Reached.start {ps} sound few unmarked) =
-    ap (λ (qs : List Pair). operators_in_range true (shown qs)) (started_pairs ps) ∙ sound_range sound
+    ap (λ (qs : List Pair). operators_in_range true (shown qs)) (started_pairs ps) ∙ row_range sound.row
 reached_range (Reached.finish before t behind reached q allowed) =
     step_range before t (finished (write_to before t behind q) t) behind (tracked_operator q.index _ _ (q.payload ∷ []) t) (reached_range reached)
 reached_range (Reached.cut before t behind reached q allowed possible none) =
@@ -135,7 +135,7 @@ link_at_most w before winner = link_at_most_of w before winner
 pub only_the_written : OnlyTheWritten
 only_the_written =
     record {
-      start = λ ps sound. all_named (sound_some sound) (start_all (sound_pairs sound));
+      start = λ ps sound. all_named (row_some sound.row) (start_all sound.pairs);
       finish = λ before t behind reached q allowed. finish_named before t behind q (reached_state reached) allowed;
       cut = λ before t behind reached q allowed possible none. cut_named before t behind q (reached_state reached) allowed possible none;
     }

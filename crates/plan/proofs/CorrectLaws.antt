@@ -20,12 +20,12 @@ use Rattle.judge.specs.Same.{AllFit, frame_of}
 use Rattle.judge.proofs.SameLaws.{operator-read, row-is}
 use Rattle.judge.specs.declared.pairs.Pair.{Pair as ShownPair}
 use Rattle.cut.specs.Store.{Every, Pair, slot_at, report, framed_pair, framed, shown, frames, SoundPair}
-use Rattle.cut.specs.Cut.{Tear, Ascending, Sectors, old, new, left, CorrectWith, AccidentBy}
+use Rattle.cut.specs.Cut.{Tear, Ascending, Sectors, old, new, left, Written, CorrectWith, AccidentBy}
 use Rattle.cut.proofs.FrameLaws.{PairTyped, row_fits, count_frames}
 use Rattle.cut.proofs.EveryLaws.{every_split}
 use Rattle.cut.proofs.PairLaws.{other_other}
 use Rattle.cut.proofs.StateLaws.{sound_won}
-use Rattle.cut.proofs.Theorem.{cut_theorem, sound_pairs}
+use Rattle.cut.proofs.Theorem.{cut_theorem}
 use Rattle.plan.specs.declared.error.PlanError.{PlanError}
 use Rattle.plan.specs.declared.write.Plan.{Plan}
 use Rattle.plan.specs.Pairs.{frame_report}
@@ -40,7 +40,34 @@ pub all_typed : {ps : List Pair} → Every NumberedPair ps → Every PairTyped p
 all_typed Every.none = Every.none
 all_typed (Every.more first rest) = Every.more (record { a = (first SlotIndex.A).typed; b = (first SlotIndex.B).typed }) (all_typed rest)
 
--- A plan for the slot beside the winner, after the winner's record and the number `most`, is of a correct write with the next number.
+-- What is written by a plan that follows this generation and checksum, and the number `most`.
+pub given_written : (before : List Pair) (p : Pair) (behind : List Pair) (plan : Plan) (owner compat : ℕ) (payload buffer : List ℕ) (tear : Tear)
+    (next : Option SlotIndex) (record_before : ℕ × ℕ) (most : ℕ)
+    → Has next record_before most plan
+    → IsGiven (write_of before p behind plan owner compat payload buffer tear)
+    → Written (record_before.0 + 1) record_before.1 (most + 1) (write_of before p behind plan owner compat payload buffer tear)
+given_written before p behind plan owner compat payload buffer tear next record_before most has given =
+    record {
+      format = refl;
+      volume = refl;
+      object = refl;
+      offset = refl;
+      index = refl;
+      log2 = refl;
+      generation_is = has.generation;
+      generation_fits = has.generation_fits;
+      prev_is = has.prev;
+      number_is = has.number;
+      number_fits = has.number_fits;
+      owner = given.owner;
+      compat = given.compat;
+      bytes = given.bytes;
+      accepted = given.accepted;
+      fits = given.fits;
+      room = given.room;
+    }
+
+-- For the slot beside the winner, after the winner's record, it is of a correct write with the next number.
 pub given_correct : (before : List Pair) (p : Pair) (behind : List Pair) (won : SlotIndex × SlotInfo) (plan : Plan) (owner compat : ℕ) (payload buffer : List ℕ)
     (tear : Tear) (next : Option SlotIndex) (most : ℕ)
     → winner_info (report p) ≡ Some won
@@ -53,23 +80,7 @@ given_correct before p behind won plan owner compat payload buffer tear next mos
     record {
       winner = won.1;
       won = won_is ∙ ap (λ (x : SlotIndex). Some (x, won.1)) beside;
-      format = refl;
-      volume = refl;
-      object = refl;
-      offset = refl;
-      index = refl;
-      log2 = refl;
-      generation = has.generation;
-      generation_fits = has.generation_fits;
-      prev = has.prev;
-      number = has.number;
-      number_fits = has.number_fits;
-      owner = given.owner;
-      compat = given.compat;
-      bytes = given.bytes;
-      accepted = given.accepted;
-      fits = given.fits;
-      room = given.room;
+      written = given_written before p behind plan owner compat payload buffer tear next (won.1.generation, won.1.header_crc32c) most has given;
     }
 
 pub planned_is_correct : PlannedIsCorrect
@@ -170,7 +181,7 @@ survives_cuts given i a b owner compat payload buffer written answer owner_fits 
     ap₂ plan_write (sym asked.frames_are) (sym asked.place) ∙ known.is in
     let few : length (before ++ p ∷ behind) ≤ most_pairs =
     subst (λ (n : ℕ). n ≤ most_pairs) (count_frames (before ++ p ∷ behind)) (planned_few _ _ plan here) in
-    let all = sound_pairs asked.sound in
+    let all = asked.sound.pairs in
     let pair_sound : SoundPair p = (every_split before p behind all).1 in
     let correct =
     planned_is_correct before p behind (pair_sound.newer, pair_sound.info) plan owner compat payload buffer tear (numbered_pairs all)

@@ -4,7 +4,7 @@ use Rattle.slot.specs.Status.{other}
 use Rattle.slot.specs.Payload.{payload as payload_of}
 use Rattle.slot.specs.Laws.{info_of}
 use Rattle.slot.specs.declared.slot.SlotIndex.{SlotIndex}
-use Rattle.cut.specs.Store.{Every, Slot, Pair, accepts, slot_at, status, Beside, SoundPair, IsPage, Sound}
+use Rattle.cut.specs.Store.{Slot, Pair, accepts, slot_at, status, Beside, SoundPair, IsPage, IsRow, Sound}
 use Rattle.cut.specs.Cut.{Write, store, new, with_slot, next_number, CorrectWrite}
 use Rattle.cut.proofs.EveryLaws.{every_split, every_join}
 use Rattle.cut.proofs.PairLaws.{last_is}
@@ -14,7 +14,6 @@ use Rattle.cut.proofs.NextLaws.{kept_slot, put_decoder, put_operator}
 use Rattle.cut.proofs.RowLaws.{range_kept}
 use Rattle.cut.proofs.WriteLaws.{BesideWinner, sound_beside}
 use Rattle.cut.proofs.LeftLaws.{finished_wins}
-use Rattle.cut.proofs.Theorem.{sound_pairs}
 use Rattle.plan.specs.Promise.{finished_pair, FinishedIsSound}
 
 -- ---- one pair in the place of another
@@ -22,22 +21,20 @@ use Rattle.plan.specs.Promise.{finished_pair, FinishedIsSound}
 page_kept : (index : SlotIndex) (s : List ℕ) (p : Pair) → IsPage p → IsPage (with_slot index s p)
 page_kept index s p page = record { index = page.index; most = page.most; decoder = put_decoder p s index ∙ page.decoder }
 
-sound_put : (before : List Pair) (p : Pair) (behind : List Pair) (index : SlotIndex) (s : List ℕ) → Sound (before ++ p ∷ behind)
-    → SoundPair (with_slot index s p) → Sound (before ++ with_slot index s p ∷ behind)
-sound_put [] p behind index s (Sound.row volume pages range (Every.more first rest)) here =
-    Sound.row (put_decoder p s index ∙ volume) pages
-    (range_kept true [] p (with_slot index s p) behind (put_operator p s index) ∙ range) (Every.more here rest)
-sound_put (q ∷ before) p behind index s (Sound.row volume pages range (Every.more first all)) here =
+pub row_put : (before : List Pair) (p : Pair) (behind : List Pair) (index : SlotIndex) (s : List ℕ) → IsRow (before ++ p ∷ behind)
+    → IsRow (before ++ with_slot index s p ∷ behind)
+row_put [] p behind index s (IsRow.row volume pages range) =
+    IsRow.row (put_decoder p s index ∙ volume) pages (range_kept true [] p (with_slot index s p) behind (put_operator p s index) ∙ range)
+row_put (q ∷ before) p behind index s (IsRow.row volume pages range) =
     let page = every_split before p behind pages in
-    let rest = every_split before p behind all in
-    Sound.row volume (every_join page.0 (page_kept index s p page.1) page.2)
-    (range_kept true (q ∷ before) p (with_slot index s p) behind (put_operator p s index) ∙ range) (Every.more first (every_join rest.0 here rest.2))
+    IsRow.row volume (every_join page.0 (page_kept index s p page.1) page.2)
+    (range_kept true (q ∷ before) p (with_slot index s p) behind (put_operator p s index) ∙ range)
 
 -- ---- the written pair
 
 module _ (w : Write) (sound : Sound (store w)) (correct : CorrectWrite w) where
   pair_sound : SoundPair w.pair
-  pair_sound = (every_split w.before w.pair w.behind (sound_pairs sound)).1
+  pair_sound = (every_split w.before w.pair w.behind sound.pairs).1
 
   abbrev made : BesideWinner (next_number (store w) w.pair) w
   made = sound_beside w pair_sound correct
@@ -65,8 +62,8 @@ module _ (w : Write) (sound : Sound (store w)) (correct : CorrectWrite w) where
         valid = wins.0.valid;
         accepted = wins.0.accepted;
         beside =
-            Beside.both correct.winner (ap status (kept_slot w.pair (new w) w.index) ∙ made.leads.valid) correct.generation
-            (omega (arith, correct.number)) correct.prev
+            Beside.both correct.winner (ap status (kept_slot w.pair (new w) w.index) ∙ made.leads.valid) correct.written.generation_is
+            (omega (arith, correct.written.number_is)) correct.written.prev_is
             (ap₂ (λ d (s : Slot). accepts d (payload_of correct.winner s.bytes)) (put_decoder w.pair (new w) w.index) (kept_slot w.pair (new w) w.index)
             ∙ made.leads.accepted);
       }
@@ -74,7 +71,11 @@ module _ (w : Write) (sound : Sound (store w)) (correct : CorrectWrite w) where
 pub finished_is_sound : FinishedIsSound
 unfolding written_sound
 finished_is_sound w sound correct =
-    let written = written_sound w sound correct in (
-      sound_put w.before w.pair w.behind w.index (new w) sound written,
+    let written = written_sound w sound correct in
+    let all = every_split w.before w.pair w.behind sound.pairs in (
+      record {
+        row = row_put w.before w.pair w.behind w.index (new w) sound.row;
+        pairs = every_join all.0 written all.2;
+      },
       last_is (finished_pair w) written ∙ (wins w sound correct).2,
     )

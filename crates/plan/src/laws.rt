@@ -40,7 +40,6 @@ pub fn cuts_law()
 {}
 
 // Does nothing: its contract is that a correct write which is finished leaves a sound store whose last record is the payload.
-#[tactic(auto, using(crate::proofs::FinishLaws::finished_is_sound))]
 pub fn finished_law()
     ensures { FinishedIsSound }
 {}
