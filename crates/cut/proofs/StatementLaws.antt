@@ -24,9 +24,10 @@ use Rattle.meta.specs.Volume.{decode_volume}
 use Rattle.meta.specs.declared.meta.MetaError.{MetaError}
 use Rattle.meta.specs.declared.meta2.VolumeMeta2.{VolumeMeta2}
 use Rattle.meta.proofs.VolumeLaws.{volume_decoded}
-use Rattle.cut.specs.Store.{Every, mark_by, clean_mark, Slot, Pair, slot_at, status, report, shown, frames, Beside, SoundPair, IsPage, IsRow}
+use Rattle.cut.specs.Store.{Every, mark_by, clean_mark, store_mark, Slot, Pair, slot_at, status, report, shown, frames, Beside, SoundPair, IsPage, IsRow}
 use Rattle.cut.specs.Cut.{Tear, Ascending, Write, store, size, old, new, cut, torn, left, next_number, CutPoint, CorrectWrite, Accident, payload_by, SectorAccident, is_empty, handed, PayloadIs}
-use Rattle.cut.specs.Laws.{of_operator, SoundUnderAny, UnmarkedRecord, UnmarkedStore, PageHanded, TornHanded, WholeHanded, OldHeaderKept, NoneInOrder, zeros, PairFrame, OnePayload, HasSlots}
+use Rattle.cut.specs.Laws.{of_operator, SoundUnderAny, UnmarkedRecord, UnmarkedStore, UnmarkedAsked, PageHanded, TornHanded, WholeHanded, OldHeaderKept, NoneInOrder, zeros, PairFrame, OnePayload, HasSlots}
+use Rattle.cut.proofs.StatusLaws.{false_true}
 use Rattle.cut.proofs.PairLaws.{last_is}
 use Rattle.cut.proofs.CutLaws.{kept_by_header}
 use Rattle.cut.proofs.WrittenLaws.{new_size, sizes_same}
@@ -87,11 +88,14 @@ pub page_handed : PageHanded
 unfolding handed
 page_handed w p ps before = rw before refl
 
+pub unmarked_asked : UnmarkedAsked
+unmarked_asked before p behind unset = λ set. false_true unset set
+
 pub torn_handed : TornHanded
 unfolding handed
 torn_handed w torn = if_first (is_empty w.before) (simp torn)
   where
-    if_first : (first : Bool) {mark : Bool} → mark ≡ false → cond first mark false ≡ false
+    if_first : (first : Bool) {mark : Bool} → mark ≡ store_mark (store w) → cond first mark (store_mark (store w)) ≡ store_mark (store w)
     if_first true none = none
     if_first false none = refl
 

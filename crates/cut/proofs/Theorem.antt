@@ -14,8 +14,8 @@ use Rattle.judge.specs.Judge.{volume_verdict, mark_counts, judgement, most_pairs
 use Rattle.judge.specs.Frames.{verdict_width}
 use Rattle.judge.specs.declared.verdict.SlotVerdict.{SlotVerdict}
 use Rattle.judge.specs.declared.verdict.PairVerdict.{PairVerdict}
-use Rattle.cut.specs.Store.{Every, Slot, Pair, slot_at, shown, last_record, SoundPair, IsRow}
-use Rattle.cut.specs.Cut.{Write, store, size, old, new, left, with_slot, after, next_number, Possible, CorrectWrite, whole, Accident, is_empty, handed, Survives, CutTheorem}
+use Rattle.cut.specs.Store.{Every, Slot, Pair, slot_at, shown, last_record, store_mark, SoundPair, IsRow}
+use Rattle.cut.specs.Cut.{Write, store, size, old, new, left, with_slot, after, next_number, Possible, CorrectWrite, whole, Accident, is_empty, handed, VolumeFirst, Survives, CutTheorem}
 use Rattle.cut.specs.Laws.{OlderSurvived}
 use Rattle.cut.proofs.EveryLaws.{every_split, same_length}
 use Rattle.cut.proofs.StatusLaws.{false_true}
@@ -39,11 +39,12 @@ flight_unmarked mark SlotIndex.B Explained.torn flight = and-false (mark && true
 flight_unmarked mark index Explained.nothing flight = false_true refl flight
 flight_unmarked mark index Explained.older flight = false_true refl flight
 
-row_unmarked : {before : List Pair} (rest : Every Rested before) (mark : Bool) (index : SlotIndex) {v : SlotVerdict} (vs : List PairVerdict)
-    → Explained v → is_in_flight v ≡ true
-    → mark_counts (cond (is_empty before) mark false) (volume_verdict (rested_verdicts rest ++ winner_beside index v ∷ vs)) ≡ false
-row_unmarked Every.none mark index vs explained flight = flight_unmarked mark index explained flight
-row_unmarked (Every.more rested rest) mark index vs explained flight = refl
+row_unmarked : {before : List Pair} (rest : Every Rested before) (mark old : Bool) (index : SlotIndex) {v : SlotVerdict} (vs : List PairVerdict)
+    → Explained v → is_in_flight v ≡ true → (old ≡ true → is_empty before ≡ true)
+    → mark_counts (cond (is_empty before) mark old) (volume_verdict (rested_verdicts rest ++ winner_beside index v ∷ vs)) ≡ false
+row_unmarked Every.none mark old index vs explained flight first = flight_unmarked mark index explained flight
+row_unmarked (Every.more rested rest) mark true index vs explained flight first = false_true refl (first refl)
+row_unmarked (Every.more rested rest) mark false index vs explained flight first = refl
 
 -- ---- the pairs of the store
 
@@ -118,7 +119,7 @@ module _ (p : Pair) (index : SlotIndex) (i : SlotInfo) (n : ℕ) (whole : Bool) 
 
 module _ (w : Write) (sound_before : Every SoundPair w.before) (sound : SoundPair w.pair) (sound_behind : Every SoundPair w.behind)
     (correct : CorrectWrite w) (possible : Possible w.tear (size w)) (none : Accident (left w) (old w) (new w) w.payload → ⊥)
-    (few : length (store w) ≤ most_pairs) (range : operators_in_range true (shown (store w)) ≡ true) (out : List ℕ) (room : length out ≡ length (store w) * verdict_width) where
+    (few : length (store w) ≤ most_pairs) (range : operators_in_range true (shown (store w)) ≡ true) (first : VolumeFirst w.before w.pair w.behind) (out : List ℕ) (room : length out ≡ length (store w) * verdict_width) where
   abbrev p : Pair
   p = with_slot w.index (left w) w.pair
 
@@ -176,7 +177,7 @@ module _ (w : Write) (sound_before : Every SoundPair w.before) (sound : SoundPai
   unmarked : is_in_flight answer.verdict ≡ true
       → mark_counts (handed w) (volume_verdict (rested_verdicts rest_before ++ winner_beside answer.winner answer.verdict ∷ rested_verdicts rest_behind)) ≡ false
   unfolding handed
-  unmarked flight = row_unmarked rest_before _ answer.winner (rested_verdicts rest_behind) answer.explained flight
+  unmarked flight = row_unmarked rest_before _ (store_mark (store w)) answer.winner (rested_verdicts rest_behind) answer.explained flight first
 
   healed_is : (h : Option (ℕ × SlotIndex)) → Healed (length w.before) answer.winner answer.verdict h
       → (h ≡ None) ⊎ (h ≡ Some ((length w.before), w.index))
@@ -201,13 +202,13 @@ module _ (w : Write) (sound_before : Every SoundPair w.before) (sound : SoundPai
         back = row_back sound_before (stands_back answer.stands) sound_behind;
       }
 
--- The store's clean mark plays no part: the judge is handed false, or a mark that meets no candidate.
+-- The judge is handed false, or a mark that meets no candidate.
 pub older_survived : OlderSurvived
-older_survived w sound few no_mark correct possible none out room =
-    let all = every_split w.before w.pair w.behind sound.pairs in
-    survives w all.0 all.1 all.2 correct possible none few (row_range sound.row) out room
+older_survived w sound few first correct possible none out room =
+    let all = every_split w.before w.pair w.behind (sound.pairs) in
+    survives w all.0 all.1 all.2 correct possible none few (row_range sound.row) first out room
 
 -- Nor does what sectors add to the accidents.
 pub cut_theorem : CutTheorem
-cut_theorem w sound few no_mark correct possible none out room =
-    older_survived w sound (omega (arith, few)) no_mark correct possible (none_of_either w.tear none) out room
+cut_theorem w sound few first correct possible none out room =
+    older_survived w sound (omega (arith, few)) first correct possible (none_of_either w.tear none) out room

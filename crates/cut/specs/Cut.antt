@@ -196,9 +196,13 @@ abbrev pub is_empty : List Pair → Bool
 is_empty [] = true
 is_empty (p ∷ ps) = false
 
--- The judge is handed false, or, if pair 0's new record stands whole, that record's mark.
+-- The judge is handed the mark of before, or, if pair 0's new record stands whole, that record's mark.
 unfoldable pub handed : Write → Bool
-handed w = if is_empty w.before then (if whole w then clean_mark w.payload else false) else false
+handed w = if is_empty w.before then (if whole w then clean_mark w.payload else store_mark (store w)) else store_mark (store w)
+
+-- Where the store's mark is set, the pair that is written is pair 0.
+abbrev pub VolumeFirst : List Pair → Pair → List Pair → Type 0
+VolumeFirst before p behind = store_mark (before ++ p ∷ behind) ≡ true → is_empty before ≡ true
 
 -- Every pair's last written record: in the written pair the new one if it stands whole.
 abbrev pub records : Write → List (List ℕ)
@@ -248,7 +252,7 @@ CutTheorem =
     (w : Write)
     → Sound (store w)
     → length (store w) ≤ most_pairs
-    → store_mark (store w) ≡ false
+    → VolumeFirst w.before w.pair w.behind
     → CorrectWrite w
     → Possible w.tear (size w)
     → (AccidentBy w.tear (left w) (old w) (new w) w.payload → ⊥)

@@ -16,7 +16,7 @@ use Rattle.meta.specs.Volume.{decode_volume}
 use Rattle.meta.specs.Page.{decode_page}
 use Rattle.meta.specs.declared.meta.MetaError.{MetaError}
 use Rattle.cut.specs.Store.{Volume, Page, accepts, clean_mark, Pair, slot_at, status, shown, frames, store_mark, SoundPair, Sound}
-use Rattle.cut.specs.Cut.{Ascending, Sectors, Write, store, size, old, new, torn, left, CutPoint, Possible, CorrectWrite, whole, header_passes, payload_in, Accident, payload_by, SectorAccident, handed, PayloadIs, Survives}
+use Rattle.cut.specs.Cut.{Ascending, Sectors, Write, store, size, old, new, torn, left, CutPoint, Possible, CorrectWrite, whole, header_passes, payload_in, Accident, payload_by, SectorAccident, handed, VolumeFirst, PayloadIs, Survives}
 
 -- ---- the decoders
 
@@ -68,13 +68,21 @@ UnmarkedStore =
     (p : Pair) (ps : List Pair) (sound : SoundPair p) → get_or (payload sound.info (slot_at sound.newer p).bytes) 54 0 ≡ 0
     → store_mark (p ∷ ps) ≡ false
 
--- After a write to a page the judge is handed false,
+-- The theorem asks that the mark is not set,
+abbrev pub UnmarkedAsked : Type 0
+UnmarkedAsked = (before : List Pair) (p : Pair) (behind : List Pair) → store_mark (before ++ p ∷ behind) ≡ false → VolumeFirst before p behind
+
+-- or that pair 0 is written, whatever the mark.
+abbrev pub VolumeAsked : Type 0
+VolumeAsked = (p : Pair) (behind : List Pair) → VolumeFirst [] p behind
+
+-- After a write to a page the judge is handed the mark of before,
 abbrev pub PageHanded : Type 0
-PageHanded = (w : Write) (p : Pair) (ps : List Pair) → w.before ≡ p ∷ ps → handed w ≡ false
+PageHanded = (w : Write) (p : Pair) (ps : List Pair) → w.before ≡ p ∷ ps → handed w ≡ store_mark (store w)
 
 -- and where the new record does not stand whole as well;
 abbrev pub TornHanded : Type 0
-TornHanded = (w : Write) → whole w ≡ false → handed w ≡ false
+TornHanded = (w : Write) → whole w ≡ false → handed w ≡ store_mark (store w)
 
 -- where pair 0's new record stands whole, it is handed that record's mark.
 abbrev pub WholeHanded : Type 0
@@ -104,7 +112,7 @@ OlderAtMost =
 -- The theorem does not need that there is none: its conclusion holds where that one alone happened.
 abbrev pub OlderSurvived : Type 0
 OlderSurvived =
-    (w : Write) → Sound (store w) → length (store w) ≤ most_pairs → store_mark (store w) ≡ false → CorrectWrite w → Possible w.tear (size w)
+    (w : Write) → Sound (store w) → length (store w) ≤ most_pairs → VolumeFirst w.before w.pair w.behind → CorrectWrite w → Possible w.tear (size w)
     → (Accident (left w) (old w) (new w) w.payload → ⊥)
     → (out : List ℕ) → length out ≡ length (store w) * verdict_width → Survives w out
 

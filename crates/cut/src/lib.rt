@@ -7,7 +7,7 @@ ghost use Rattle.pair.specs.Winner.{read_pair};
 ghost use Rattle.judge.specs.Same.{NothingGiven, ChecksumGiven, NumbersGiven};
 ghost use Rattle.cut.specs.Store.{Pair};
 ghost use Rattle.cut.specs.Cut.{CutTheorem, PayloadIs};
-ghost use Rattle.cut.specs.Laws.{VolumeRefused, PageRefused, SoundUnderAny, Encoded, EachSector, AnySectors, UnmarkedRecord, UnmarkedStore, PageHanded, TornHanded, WholeHanded, FailedSum, FailedPayload, OlderAtMost, OlderSurvived, OldHeaderKept, NoneInOrder, PairFrame, OnePayload, HasSlots};
+ghost use Rattle.cut.specs.Laws.{VolumeRefused, PageRefused, SoundUnderAny, Encoded, EachSector, AnySectors, UnmarkedRecord, UnmarkedStore, UnmarkedAsked, VolumeAsked, PageHanded, TornHanded, WholeHanded, FailedSum, FailedPayload, OlderAtMost, OlderSurvived, OldHeaderKept, NoneInOrder, PairFrame, OnePayload, HasSlots};
 
 use pair::pair::PairReport;
 use slot::slot::Expect;
@@ -45,6 +45,13 @@ pub fn cut_by_sectors()
 pub fn clean_mark()
     ensures unmarked_record { UnmarkedRecord }
     ensures unmarked_store { UnmarkedStore }
+{}
+
+// What the theorem asks of the mark.
+#[tactic(auto, using(crate::proofs::StatementLaws::unmarked_asked))]
+pub fn asked_mark()
+    ensures unmarked { UnmarkedAsked }
+    ensures volume { VolumeAsked }
 {}
 
 // Which mark the judge is handed.

@@ -24,7 +24,7 @@ use Rattle.cut.specs.Cut.{Tear, Write, cut, left, with_bytes, with_slot, stands_
 use Rattle.cut.proofs.StatementLaws.{page_handed}
 use Rattle.cut_examples.specs.Stores.{volume_record, page_record, zeros_for, volume_fields, volume_pair, first_page, second_fields, second_page, later_page}
 use Rattle.cut_examples.specs.Writes.{write_to, page_write, volume_write, second_write, later_write}
-use Rattle.cut_examples.proofs.Writes.{summed_slot, summed_is, none_refused, volume_sum, second_sum, volume_handed, old_page, new_page, blank_bytes, marked_bytes, next_page, newer_slot, later_slot, old_page_is, new_page_is, marked_bytes_is, next_page_is, newer_slot_is, later_slot_is, page_accepted, volume_accepted}
+use Rattle.cut_examples.proofs.Writes.{unmarked_with, summed_slot, summed_is, none_refused, volume_sum, second_sum, volume_handed, old_page, new_page, blank_bytes, marked_bytes, next_page, newer_slot, later_slot, old_page_is, new_page_is, marked_bytes_is, next_page_is, newer_slot_is, later_slot_is, page_accepted, volume_accepted}
 use Rattle.cut_examples.specs.Computed.{writable_store, JudgedAs, Computed, blank_read, bad_magic, torn_header, torn_payload, valid_read}
 use Rattle.cut_examples.specs.Cuts.{old_records, older_read, torn_page, new_read, PageCuts, torn_volume, marked_read, VolumeCuts, damaged_volume, MagicCuts, OtherCuts}
 use Rattle.cut_examples.proofs.SlotsRead.{PairRecord, more, none, read_once, read_once_is, framed_row, pair_record, judged_row, computed_row}
@@ -127,7 +127,7 @@ pub page_at : {p : Pair} {f : SlotFields} {payload : List ℕ} {tear : Tear} {sl
     → Computed (write_to (volume_pair ∷ []) p (second_page ∷ []) f payload tear) slot heal false verdict (volume_record false ∷ r ∷ page_record 1 0 ∷ [])
 page_at {p} {f} {payload} {tear} written =
     let w = write_to (volume_pair ∷ []) p (second_page ∷ []) f payload tear in
-    rw (page_handed w volume_pair [] refl) (judged_with (with_bytes (left w) (slot_at w.index w.pair)) written.slot_is written.pair_is)
+    rw (page_handed w volume_pair [] refl ∙ unmarked_with p) (judged_with (with_bytes (left w) (slot_at w.index w.pair)) written.slot_is written.pair_is)
 
 -- The page's slot A after k bytes is read as x.
 page_read : (k : ℕ) (x : SlotRead) → read_once (cut k new_page old_page) first_page.a.expect ≡ x
@@ -233,7 +233,7 @@ other_computed =
     record {
       second_140 =
           computed_row (second_write 140) {clean_mark = false} (rw next_page_is (read_once_is (cut 140 next_page blank_bytes) second_page.b.expect ∙ torn_second_read))
-          (more volume_pair_read (more first_page_read (more torn_pair_read none))) (page_handed (second_write 140) volume_pair (first_page ∷ []) refl) refl refl;
+          (more volume_pair_read (more first_page_read (more torn_pair_read none))) (page_handed (second_write 140) volume_pair (first_page ∷ []) refl ∙ unmarked_with first_page) refl refl;
       later_64 = page_at (later_read 64 (torn_header 0xe83c_e718) refl refl refl) refl refl;
       later_133 = page_at (later_read 133 (torn_payload 4 6 0xe83c_e718 0xd61e_00d0) refl refl refl) refl refl;
     }

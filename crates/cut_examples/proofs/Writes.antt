@@ -540,11 +540,11 @@ volume_cuts =
 pub volume_handed : (k : ℕ) → handed (volume_write k)
     ≡ cond (stands_whole (cut k marked_bytes blank_bytes) marked_bytes (volume_record true)) (clean_mark (volume_record true)) false
 unfolding handed
-volume_handed k = rw marked_bytes_is
+volume_handed k = rw (marked_bytes_is, unmarked_with first_page)
 
 pub volume_marks : MarkHanded
 unfolding stands_whole cut header_bytes volume_record_bytes
-volume_marks = (torn_handed (volume_write 191) (whole_at 191), whole_handed (volume_write 192) refl (whole_at 192) ∙ volume_accepted.2)
+volume_marks = (torn_handed (volume_write 191) (whole_at 191) ∙ unmarked_with first_page, whole_handed (volume_write 192) refl (whole_at 192) ∙ volume_accepted.2)
   where
     whole_at : (k : ℕ) → whole (volume_write k) ≡ stands_whole (cut k marked_bytes blank_bytes) marked_bytes (volume_record true)
     whole_at k = rw marked_bytes_is
@@ -653,4 +653,4 @@ later_cuts = Every.more (later_met 64 refl) (Every.more (later_met 133 refl) Eve
 -- ---- the hypotheses are the theorem's
 
 pub met_is_enough : MetIsEnough
-met_is_enough w met out room = cut_theorem w met.sound met.few met.unmarked met.correct met.possible met.none out room
+met_is_enough w met out room = cut_theorem w met.sound met.few (λ set. false_true met.unmarked set) met.correct met.possible met.none out room

@@ -191,7 +191,7 @@ survives_cuts given i a b owner compat payload buffer written answer owner_fits 
     let same : new w ≡ written =
     ap (λ (e : Expect). (encode (fields_of plan e owner compat) payload buffer).0) same_expect ∙ sym known.bytes in (
       same,
-      cut_theorem w asked.sound few asked.unmarked correct possible
+      cut_theorem w asked.sound few asked.volume_first correct possible
           (λ accident. no_accident (subst (λ (bytes : List ℕ). AccidentBy tear (left w) (old w) bytes payload) same accident))
           verdicts verdicts_room,
     )

@@ -1,6 +1,6 @@
 -- What a planned write keeps: it is the cut theorem's correct write, the store survives where it is cut, and a write that is finished
 -- leaves a sound store (docs/FORMAT.md, "What a correct write is"). Of more pairs than are judged none is planned.
-use Rattle.std.specs.Prelude.{◌≡◌, Bool, Option, Some, Result, Ok, Err, true, false, List, ◌∷◌, ◌++◌, ℕ, ◌+◌, ◌*◌, ◌^◌, ◌≤◌, ◌<◌, length}
+use Rattle.std.specs.Prelude.{◌≡◌, Bool, Option, Some, Result, Ok, Err, true, List, ◌∷◌, ◌++◌, ℕ, ◌+◌, ◌*◌, ◌^◌, ◌≤◌, ◌<◌, length}
 use Rattle.codec.specs.Bytes.{AllBytes}
 use Rattle.slot.specs.declared.slot.SlotIndex.{SlotIndex}
 use Rattle.slot.specs.declared.slot.SlotInfo.{SlotInfo}
@@ -9,8 +9,8 @@ use Rattle.pair.specs.Pair.{winner_info}
 use Rattle.judge.specs.Judge.{most_pairs}
 use Rattle.judge.specs.Frames.{frame_width, verdict_width}
 use Rattle.judge.specs.declared.verdict.JudgeError.{JudgeError}
-use Rattle.cut.specs.Store.{Every, Pair, accepts, slot_at, report, frames, last_record, store_mark, SoundSlot, Sound}
-use Rattle.cut.specs.Cut.{Tear, Ascending, Sectors, Write, store, size, old, new, left, with_slot, CutPoint, Possible, CorrectWrite, Accident, SectorAccident, AccidentBy, Survives}
+use Rattle.cut.specs.Store.{Every, Pair, accepts, slot_at, report, frames, last_record, SoundSlot, Sound}
+use Rattle.cut.specs.Cut.{Tear, Ascending, Sectors, Write, store, size, old, new, left, with_slot, CutPoint, Possible, CorrectWrite, Accident, SectorAccident, AccidentBy, VolumeFirst, Survives}
 use Rattle.plan.specs.declared.error.PlanError.{PlanError}
 use Rattle.plan.specs.declared.write.Plan.{Plan}
 use Rattle.plan.specs.Numbers.{next_number, heal_number}
@@ -72,12 +72,12 @@ PlannedIsCorrect =
 abbrev pub Answer : Type 0
 Answer = Result (Option (Plan × ℕ)) PlanError
 
--- The frames are of a sound store with no clean mark, whose pair i is p and is read with a and b; a plan was answered for it, and its
--- decoder accepts the payload.
+-- The frames are of a sound store, whose pair i is p, pair 0 where the clean mark is set, and is read with a and b; a plan was answered for it,
+-- and its decoder accepts the payload.
 pub record PlannedFor (given : List ℕ) (i : ℕ) (a b : Expect) (payload : List ℕ) (answer : Answer) (before : List Pair) (p : Pair) (behind : List Pair) (plan : Plan) : Type 0 where
   pub crc : ℕ
   pub sound : Sound (before ++ p ∷ behind)
-  pub unmarked : store_mark (before ++ p ∷ behind) ≡ false
+  pub volume_first : VolumeFirst before p behind
   pub frames_are : given ≡ frames (before ++ p ∷ behind)
   pub place : i ≡ length before
   pub read_a : p.a.expect ≡ a
