@@ -1,5 +1,5 @@
 -- The functions that plan a write give the writes of a history, and answer their numbers.
-use Rattle.std.proofs.Common.{◌≡◌, refl, sym, ap, ap₂, subst, ◌∙◌, true, false, List, [], ◌∷◌, ◌++◌, ℕ, ◌+◌, ◌*◌, ◌-◌, ◌^◌, ◌≤◌, arith, lt-ltb, length, replicate, length-append, slice_get, Option, Some, None, Ok}
+use Rattle.std.proofs.Common.{◌≡◌, refl, sym, ap, ap₂, subst, ◌∙◌, Bool, true, false, ◌==◌, List, [], ◌∷◌, ◌++◌, ℕ, ◌+◌, ◌*◌, ◌-◌, ◌^◌, ◌≤◌, arith, lt-ltb, length, replicate, length-append, slice_get, Option, Some, None, Ok}
 use Rattle.std.proofs.Math.ListN.{length-replicate}
 use Rattle.std.proofs.lemmas.Option.{some_pair_parts, same_Some}
 use Rattle.slot.specs.Status.{other}
@@ -10,12 +10,12 @@ use Rattle.judge.specs.Numbers.{numbers, place, highest, highest_other}
 use Rattle.judge.specs.Operators.{operators_in_range}
 use Rattle.judge.specs.Judge.{most_pairs, judgement, unless}
 use Rattle.judge.specs.Frames.{verdict_width, operator_in, pair_count, frames as frames_in, row, frames_error, judge_frames, refusal}
-use Rattle.judge.specs.Same.{frame_of, Fits}
+use Rattle.judge.specs.Same.{frame_of, Fits, mark}
 use Rattle.judge.specs.declared.pairs.Pair.{Pair as ShownPair}
 use Rattle.judge.specs.declared.verdict.JudgeError.{JudgeError}
 use Rattle.judge.proofs.RowLaws.{answered}
 use Rattle.judge.proofs.SameLaws.{operator-read, row-is}
-use Rattle.cut.specs.Store.{Every, Pair, clean_mark, report, framed_pair, framed, shown, frames}
+use Rattle.cut.specs.Store.{Every, Pair, report, framed_pair, framed, shown, frames}
 use Rattle.cut.specs.Cut.{Tear, Write, store, next_number as next_number_of, CorrectWith, is_empty}
 use Rattle.cut.proofs.EveryLaws.{every_split}
 use Rattle.cut.proofs.FrameLaws.{PairTyped, row_fits, count_frames, judged_row}
@@ -33,7 +33,7 @@ use Rattle.plan.proofs.HealLaws.{planned}
 use Rattle.plan.proofs.ReportLaws.{held_report, winner_held, followed_held}
 use Rattle.plan.proofs.FrameLaws.{frame_reports, frame_at, fits_at}
 use Rattle.plan.proofs.CorrectLaws.{all_typed, given_correct, planned_is_correct}
-use Rattle.history.specs.History.{Tracked, pairs, named, heal_number as heal_number_of, Turn, Allowed, Put, write_to}
+use Rattle.history.specs.History.{Tracked, pairs, read_mark, named, heal_number as heal_number_of, Turn, Allowed, Put, write_to}
 use Rattle.history.specs.Laws.{NumbersAnswered, NumbersMeet, NumbersOfHistory, plan_of, AllowedIsPlanned, FreePlanIsAllowed, HealPlanIsAllowed}
 use Rattle.history.proofs.RowLaws.{rested_highest, others_are}
 use Rattle.history.proofs.States.{Rests, rested, all_rested, pairs_row, length_pairs, State, flies_stand, flies_number, flown_named, all_named, none_named, one_named}
@@ -41,16 +41,22 @@ use Rattle.history.proofs.Theorem.{reached_state, reached_few, reached_range}
 
 -- ---- nothing is refused
 
+-- The mark as a byte is the mark.
+mark_is : (clean : Bool) → (mark clean == 1) ≡ clean
+mark_is true = refl
+mark_is false = refl
+
 module _ (ps : List Pair) (typed : Every PairTyped ps) where
   abbrev out : List ℕ
   out = replicate (pair_count (frames ps) * verdict_width) 0
 
-  not_refused : 1 ≤ length ps → length ps ≤ most_pairs → operators_in_range true (shown ps) ≡ true → refusal (frames ps) 0 ≡ None
+  pub not_refused : 1 ≤ length ps → length ps ≤ most_pairs → operators_in_range true (shown ps) ≡ true → (clean : Bool)
+      → refusal (frames ps) (mark clean) ≡ None
   unfolding judge_frames
-  not_refused some few range =
-      (answered (refusal (frames ps) 0) (judgement (row (frames ps)) false) (judgement (shown ps) false)
-      (sym (subst (λ (n : ℕ). unless (frames_error (frames ps) 0 n) (judgement (row (frames ps)) false) ≡ Ok (judgement (shown ps) false)) size
-      (judged_row ps some few range false typed out (size ∙ ap (λ (n : ℕ). n * verdict_width) (count_frames ps)))))).0
+  not_refused some few range clean =
+      (answered (refusal (frames ps) (mark clean)) (judgement (row (frames ps)) (mark clean == 1)) (judgement (shown ps) clean)
+      (sym (subst (λ (n : ℕ). unless (frames_error (frames ps) (mark clean) n) (judgement (row (frames ps)) (mark clean == 1)) ≡ Ok (judgement (shown ps) clean)) size
+      (judged_row ps some few range clean typed out (size ∙ ap (λ (n : ℕ). n * verdict_width) (count_frames ps)))))).0
     where
       size : length out ≡ pair_count (frames ps) * verdict_width
       size = length-replicate (pair_count (frames ps) * verdict_width) 0
@@ -64,10 +70,10 @@ numbers_answered =
     record {
       next = λ ps o some few range numbered.
           ap₂ (λ (e : Option JudgeError) (row : List ShownPair). unless_refused e (of_operator o (after (highest (numbers o row)))))
-          (not_refused ps (all_typed numbered) some few range) (row_shown ps (all_typed numbered));
+          (not_refused ps (all_typed numbered) some few range false) (row_shown ps (all_typed numbered));
       heal = λ ps o some few range numbered.
           ap₂ (λ (e : Option JudgeError) (row : List ShownPair). unless_refused e (of_operator o (after (highest_winner o row))))
-          (not_refused ps (all_typed numbered) some few range) (row_shown ps (all_typed numbered));
+          (not_refused ps (all_typed numbered) some few range false) (row_shown ps (all_typed numbered));
     }
 
 -- ---- the numbers of a history
@@ -83,7 +89,7 @@ meet ts (State.all_rest some all) =
       healing = λ k index p is at.
           let never : ◌≡◌ {A = Option (ℕ × SlotIndex)} None (Some (k, index)) = sym (all_named some all) ∙ is in absurd cc;
     }
-meet ts (State.one_flies before t behind split rest_before fly rest_behind) =
+meet ts (State.one_flies before t behind split rest_before fly rest_behind unset) =
     subst NumbersMeet (sym (ap pairs split ∙ pairs_row before t behind))
     (record { free = free; healing = healing })
   where
@@ -91,7 +97,7 @@ meet ts (State.one_flies before t behind split rest_before fly rest_behind) =
     ps = pairs before ++ t.pair ∷ pairs behind
 
     flown : named ps ≡ Some (length (pairs before), other fly.x)
-    flown = flown_named rest_before fly rest_behind
+    flown = flown_named rest_before fly rest_behind unset
 
     free : named ps ≡ None → (o : ℕ) → highest (numbers o (shown ps)) ≡ highest_winner o (shown ps)
     free none o = let never : ◌≡◌ {A = Option (ℕ × SlotIndex)} None (Some (length (pairs before), other fly.x)) = sym none ∙ flown in absurd cc
@@ -124,7 +130,7 @@ row_numbered t (Every.more rests before) here rest = Every.more rests.led.leads.
 
 state_numbered : {ts : List Tracked} → State ts → Every NumberedPair (pairs ts)
 state_numbered (State.all_rest some all) = rests_numbered all
-state_numbered (State.one_flies before t behind split rest_before fly rest_behind) =
+state_numbered (State.one_flies before t behind split rest_before fly rest_behind unset) =
     subst (λ (us : List Tracked). Every NumberedPair (pairs us)) (sym split) (row_numbered t rest_before fly.led.leads.slots rest_behind)
 
 -- ---- the frame of a pair of the store
@@ -143,11 +149,11 @@ module _ (before : List Tracked) (t : Tracked) (behind : List Tracked) (state : 
   some = let all = length-append (pairs before) (t.pair ∷ pairs behind) in omega arith
 
   none_refused : length (before ++ t ∷ behind) ≤ most_pairs → operators_in_range true (shown (pairs (before ++ t ∷ behind))) ≡ true
-      → refusal (frames ps) 0 ≡ None
-  none_refused few range =
+      → (clean : Bool) → refusal (frames ps) (mark clean) ≡ None
+  none_refused few range clean =
       not_refused ps (all_typed numbered) some
       (subst (λ (n : ℕ). n ≤ most_pairs) (sym (length_pairs (before ++ t ∷ behind)) ∙ ap length (pairs_row before t behind)) few)
-      (subst (λ (row : List Pair). operators_in_range true (shown row) ≡ true) (pairs_row before t behind) range)
+      (subst (λ (row : List Pair). operators_in_range true (shown row) ≡ true) (pairs_row before t behind) range) clean
 
   shows : row (frames ps) ≡ shown ps
   shows = row_shown ps (all_typed numbered)
@@ -174,14 +180,14 @@ module _ (before : List Tracked) (t : Tracked) (behind : List Tracked) (state : 
 -- ---- every write of a history is planned
 
 free_number : {w : Write} {n : ℕ} → Turn w n → named (store w) ≡ None → n ≡ highest (numbers w.pair.operator (shown (store w))) + 1
-free_number (Turn.free none) is = refl
+free_number (Turn.free none first) is = refl
 free_number {w} (Turn.healing there) is =
     let never : ◌≡◌ {A = Option (ℕ × SlotIndex)} None (Some (length w.before, w.index)) = sym is ∙ there in absurd cc
 
 healing_number : {w : Write} {n : ℕ} → Turn w n → named (store w) ≡ Some (length w.before, w.index)
     → n ≡ highest_winner w.pair.operator (shown (store w)) + 1
 healing_number (Turn.healing there) is = refl
-healing_number {w} (Turn.free none) is =
+healing_number {w} (Turn.free none first) is =
     let never : ◌≡◌ {A = Option (ℕ × SlotIndex)} None (Some (length w.before, w.index)) = sym none ∙ is in absurd cc
 
 module _ (before : List Tracked) (t : Tracked) (behind : List Tracked) (q : Put) (state : State (before ++ t ∷ behind))
@@ -220,19 +226,21 @@ module _ (before : List Tracked) (t : Tracked) (behind : List Tracked) (q : Put)
   unfolding plan_write
   planned_free none =
       ap₂ (λ (e : Option JudgeError) (at : Option (List ℕ)). unless_refused e (plan_for at (row (frames (store w)))))
-      (none_refused before t behind state few range) (at before t behind state)
+      (none_refused before t behind state few range false) (at before t behind state)
       ∙ ap (plan_for (Some (f before t behind state))) (shows before t behind state)
       ∙ ap₂ (λ (next : Option SlotIndex) (own : ℕ). plan_next next (followed (frame_report (f before t behind state))) (highest (numbers own (shown (store w)))))
       (next_is before t behind state (other q.index) i allowed.correct.won ∙ ap Some (other_other q.index)) (operator_is before t behind state)
       ∙ ap some_plan (plan_is (highest (numbers o (shown (store w)))) (free_number allowed.turn none))
 
   planned_healing : named (store w) ≡ Some (length w.before, w.index)
-      → plan_heal (frames (store w)) 0 ≡ Ok (Some (length w.before, plan_of w))
+      → plan_heal (frames (store w)) (mark (read_mark (store w))) ≡ Ok (Some (length w.before, plan_of w))
   unfolding plan_heal
   planned_healing is =
-      ap (λ (e : Option JudgeError). unless_refused e (heal_for (frames (store w)) (judgement (row (frames (store w))) false).heal))
-      (none_refused before t behind state few range)
-      ∙ ap (heal_for (frames (store w))) (ap (λ (row : List ShownPair). (judgement row false).heal) (shows before t behind state) ∙ is)
+      let m = read_mark (store w) in
+      ap (λ (e : Option JudgeError). unless_refused e (heal_for (frames (store w)) (judgement (row (frames (store w))) (mark m == 1)).heal))
+      (none_refused before t behind state few range m)
+      ∙ ap (heal_for (frames (store w)))
+      (ap₂ (λ (row : List ShownPair) (clean : Bool). (judgement row clean).heal) (shows before t behind state) (mark_is m) ∙ is)
       ∙ ap₂ (λ (at : Option (List ℕ)) (row : List ShownPair). heal_in at (length (pairs before)) q.index row)
       (at before t behind state) (shows before t behind state)
       ∙ ap (with_pair (length (pairs before)))
@@ -253,38 +261,40 @@ allowed_is_planned before t behind q reached allowed =
 
 module _ (before : List Tracked) (t : Tracked) (behind : List Tracked) (plan : Plan) (owner compat : ℕ) (payload buffer : List ℕ) (tear : Tear)
     (state : State (before ++ t ∷ behind))
-    (given : IsGiven (write_of (pairs before) t.pair (pairs behind) plan owner compat payload buffer tear))
-    (unmarked : is_empty (pairs before) ≡ true → clean_mark payload ≡ false) where
+    (given : IsGiven (write_of (pairs before) t.pair (pairs behind) plan owner compat payload buffer tear)) where
   abbrev written : Write
   written = write_of (pairs before) t.pair (pairs behind) plan owner compat payload buffer tear
 
   free_allowed : named (pairs (before ++ t ∷ behind)) ≡ None
+      → (read_mark (pairs (before ++ t ∷ behind)) ≡ true → is_empty (pairs before) ≡ true)
       → plan_write (frames (pairs (before ++ t ∷ behind))) (length before) ≡ Ok (Some plan)
       → Allowed (write_of (pairs before) t.pair (pairs behind) plan owner compat payload buffer tear)
-  free_allowed none is =
+  free_allowed none first is =
       let rests = (every_split before t behind (none_named state none)).1 in
       record {
         number = next_number_of (store written) t.pair;
-        turn = Turn.free (ap named (sym (pairs_row before t behind)) ∙ none);
+        turn =
+            Turn.free (ap named (sym (pairs_row before t behind)) ∙ none)
+            (λ set. first (ap read_mark (pairs_row before t behind) ∙ set));
         correct =
             planned_is_correct (pairs before) t.pair (pairs behind) (rests.x, rests.i) plan owner compat payload buffer tear
             (numbered before t behind state)
             (rested_stands (rested rests) (λ index number. true)).won
             (ap₂ (λ (row : List Pair) (k : ℕ). plan_write (frames row) k) (sym (pairs_row before t behind)) (length_pairs before) ∙ is)
             given;
-        unmarked = unmarked;
       }
 
-  healing_allowed : plan_heal (frames (pairs (before ++ t ∷ behind))) 0 ≡ Ok (Some (length before, plan))
+  healing_allowed : plan_heal (frames (pairs (before ++ t ∷ behind))) (mark (read_mark (pairs (before ++ t ∷ behind)))) ≡ Ok (Some (length before, plan))
       → Allowed (write_of (pairs before) t.pair (pairs behind) plan owner compat payload buffer tear)
   healing_allowed is =
+      let m = read_mark (store written) in
       let known =
-      planned (frames (store written)) 0 (length (pairs before)) plan
-      (ap (λ (row : List Pair). plan_heal (frames row) 0) (sym (pairs_row before t behind))
+      planned (frames (store written)) (mark m) (length (pairs before)) plan
+      (ap (λ (row : List Pair). plan_heal (frames row) (mark (read_mark row))) (sym (pairs_row before t behind))
       ∙ is
       ∙ ap (λ (k : ℕ). Ok (Some (k, plan))) (sym (length_pairs before))) in
       let is_named : named (store written) ≡ Some (length (pairs before), plan.index) =
-      ap (λ (row : List ShownPair). (judgement row false).heal) (sym (shows before t behind state)) ∙ known.0 in
+      ap₂ (λ (row : List ShownPair) (clean : Bool). (judgement row clean).heal) (sym (shows before t behind state)) (sym (mark_is m)) ∙ known.0 in
       let here = one_named before t behind plan.index state is_named in
       let won = (flies_stand here.fly (λ index number. true) refl refl).won in
       let frame_is : known.1.0 ≡ f before t behind state = same_Some _ _ (sym known.1.1.0 ∙ at before t behind state) in
@@ -303,13 +313,12 @@ module _ (before : List Tracked) (t : Tracked) (behind : List Tracked) (plan : P
             subst (λ (n : ℕ). CorrectWith (n + 1) written) (meets.healing (length (pairs before)) plan.index t.pair is_named (there (pairs before) t.pair (pairs behind)))
             (given_correct (pairs before) t.pair (pairs behind) (here.fly.x, here.fly.i) plan owner compat payload buffer tear (Some plan.index) most won
             (sym here.beside) has given);
-        unmarked = unmarked;
       }
 
 pub free_plan_is_allowed : FreePlanIsAllowed
-free_plan_is_allowed before t behind plan owner compat payload buffer tear reached given unmarked =
-    free_allowed before t behind plan owner compat payload buffer tear (reached_state reached) given unmarked
+free_plan_is_allowed before t behind plan owner compat payload buffer tear reached given =
+    free_allowed before t behind plan owner compat payload buffer tear (reached_state reached) given
 
 pub heal_plan_is_allowed : HealPlanIsAllowed
-heal_plan_is_allowed before t behind plan owner compat payload buffer tear reached given unmarked =
-    healing_allowed before t behind plan owner compat payload buffer tear (reached_state reached) given unmarked
+heal_plan_is_allowed before t behind plan owner compat payload buffer tear reached given =
+    healing_allowed before t behind plan owner compat payload buffer tear (reached_state reached) given

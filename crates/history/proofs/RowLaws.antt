@@ -1,24 +1,27 @@
 -- The numbers of a row of pairs that rest, and of such a row with one other pair: an operator's highest is a winner's, and the number one
 -- above its winners qualifies in the slot beside any of them. Which slot is named.
-use Rattle.std.proofs.Common.{◌≡◌, refl, sym, ap, ◌∙◌, Bool, true, false, cond, List, [], ◌∷◌, ◌++◌, ℕ, ◌+◌, ◌≤◌, max, arith, eqb, eq-eqb, length, Option, Some, None}
+use Rattle.std.proofs.Common.{◌≡◌, refl, sym, ap, ◌∙◌, Bool, true, false, ◌&&◌, cond, List, [], ◌∷◌, ◌++◌, ℕ, ◌+◌, ◌≤◌, max, arith, eqb, eq-eqb, length, Option, Some, None}
+use mathlib.Core.Bool.{and-false}
 use Rattle.slot.specs.Status.{other}
 use Rattle.slot.specs.declared.slot.SlotIndex.{SlotIndex}
 use Rattle.slot.specs.declared.slot.SlotInfo.{SlotInfo}
 use Rattle.judge.specs.Pairs.{pair_case}
 use Rattle.judge.specs.Numbers.{number_for, numbers, place, highest, highest_other}
-use Rattle.judge.specs.Verdict.{winner_beside}
-use Rattle.judge.specs.Judge.{pair_heal}
+use Rattle.judge.specs.Verdict.{winner_beside, is_in_flight}
+use Rattle.judge.specs.Judge.{first_verdicts, volume_verdict, mark_counts, row_rules, pair_heal, judgement}
 use Rattle.judge.specs.declared.verdict.SlotVerdict.{SlotVerdict}
 use Rattle.judge.specs.declared.verdict.PairVerdict.{PairVerdict}
 use Rattle.cut.specs.Store.{Every, Pair, shown}
-use Rattle.cut.proofs.JudgeLaws.{quiet_explained, Explained, settled_none}
+use Rattle.cut.specs.Cut.{is_empty}
+use Rattle.cut.proofs.StatusLaws.{false_true}
+use Rattle.cut.proofs.JudgeLaws.{Quiet, quiet_explained, Explained, settled_none}
 use Rattle.cut.proofs.PairLaws.{other_other, shown_pair, shown_slot, number_at, Stands}
 use Rattle.cut.proofs.NumberLaws.{others_row}
 use Rattle.cut.proofs.StateLaws.{Leads, winner_number as leads_number, resting_number}
-use Rattle.cut.proofs.RowLaws.{Rested, quiet_of, rested_stands, rule_at, heal_is}
+use Rattle.cut.proofs.RowLaws.{Rested, quiet_of, rested_stands, rested_verdicts, rule_at, heal_is}
 use Rattle.plan.specs.Numbers.{case_winner, number_by, winner_number, winner_for, highest_winner}
 use Rattle.plan.proofs.WinnerLaws.{first_winner}
-use Rattle.history.specs.History.{named}
+use Rattle.history.specs.History.{read_mark, named}
 
 -- ---- a pair's winner
 
@@ -101,11 +104,36 @@ module _ {before behind : List Pair} (rest_before : Every Rested before) (rest_b
 
 -- ---- the slot that is named
 
+pub quiet_idle : {v : SlotVerdict} → Quiet v → is_in_flight v ≡ false
+quiet_idle Quiet.intact = refl
+quiet_idle Quiet.damaged = refl
+
 pub rest_named : {p : Pair} {ps : List Pair} → Every Rested (p ∷ ps) → named (p ∷ ps) ≡ None
 rest_named {p} {ps} (Every.more rested rest) =
-    heal_is Every.none rest p (quiet_explained (quiet_of rested).quiet) (rested_stands rested (rule_at p.operator (shown (p ∷ ps)) 0)) false
-    (λ flight. refl)
+    heal_is Every.none rest p (quiet_explained (quiet_of rested).quiet) (rested_stands rested (rule_at p.operator (shown (p ∷ ps)) 0))
+    (read_mark (p ∷ ps)) (λ flight. false_true (quiet_idle (quiet_of rested).quiet) flight)
     ∙ settled_none rested.winner (quiet_of rested).quiet 0
+
+-- Then the mark counts as it is.
+quiet_counts : (m : Bool) (x : SlotIndex) {v : SlotVerdict} → Quiet v → mark_counts m (winner_beside x v) ≡ m
+quiet_counts true SlotIndex.A Quiet.intact = refl
+quiet_counts true SlotIndex.A Quiet.damaged = refl
+quiet_counts true SlotIndex.B Quiet.intact = refl
+quiet_counts true SlotIndex.B Quiet.damaged = refl
+quiet_counts false x quiet = refl
+
+pub rest_counts : {p : Pair} {ps : List Pair} → Every Rested (p ∷ ps) → (m : Bool) → (judgement (shown (p ∷ ps)) m).clean ≡ m
+unfolding judgement row_rules first_verdicts
+rest_counts {p} {ps} (Every.more rested rest) m =
+    ap (mark_counts m) (rested_stands rested (rule_at p.operator (shown (p ∷ ps)) 0)).verdict ∙ quiet_counts m rested.winner (quiet_of rested).quiet
+
+-- Where a write is in flight, it does not count: in pair 0 by the judge's rule, and elsewhere it is not set.
+pub flown_unmarked : {before : List Pair} (rest : Every Rested before) (m : Bool) (x : SlotIndex) (vs : List PairVerdict)
+    → (is_empty before ≡ false → m ≡ false)
+    → mark_counts m (volume_verdict (rested_verdicts rest ++ winner_beside x SlotVerdict.InFlight ∷ vs)) ≡ false
+flown_unmarked Every.none m SlotIndex.A vs unset = and-false (m && true)
+flown_unmarked Every.none m SlotIndex.B vs unset = and-false (m && true)
+flown_unmarked (Every.more rested rest) m x vs unset = rw (unset refl) refl
 
 heal_flight : (n : ℕ) (x : SlotIndex) → pair_heal n (winner_beside x SlotVerdict.InFlight) ≡ Some (n, other x)
 heal_flight n SlotIndex.A = refl
@@ -113,6 +141,9 @@ heal_flight n SlotIndex.B = refl
 
 pub fly_named : {before behind : List Pair} (rest_before : Every Rested before) (rest_behind : Every Rested behind) (p : Pair) {x : SlotIndex} {i : SlotInfo}
     {r : List ℕ} → Stands p (rule_at p.operator (shown (before ++ p ∷ behind)) (length before)) x i SlotVerdict.InFlight r
+    → (is_empty before ≡ false → read_mark (before ++ p ∷ behind) ≡ false)
     → named (before ++ p ∷ behind) ≡ Some (length before, other x)
-fly_named {before} rest_before rest_behind p {x} stands =
-    heal_is rest_before rest_behind p Explained.torn stands false (λ flight. refl) ∙ heal_flight (length before) x
+fly_named {before} {behind} rest_before rest_behind p {x} stands unset =
+    heal_is rest_before rest_behind p Explained.torn stands (read_mark (before ++ p ∷ behind))
+    (λ flight. flown_unmarked rest_before (read_mark (before ++ p ∷ behind)) x (rested_verdicts rest_behind) unset)
+    ∙ heal_flight (length before) x

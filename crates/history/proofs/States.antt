@@ -1,6 +1,6 @@
 -- A store through a history: every pair rests, or one is in flight among those that rest. What that gives: the store is judged as promised,
 -- and what is read is known.
-use Rattle.std.proofs.Common.{◌≡◌, refl, sym, ap, subst, ◌∙◌, Bool, true, false, List, [], ◌∷◌, ◌++◌, ℕ, ◌+◌, ◌*◌, ◌≤◌, arith, length, Option, Some, None}
+use Rattle.std.proofs.Common.{◌≡◌, refl, sym, ap, subst, ◌∙◌, Bool, true, false, List, [], ◌∷◌, ◌++◌, ℕ, suc, ◌+◌, ◌*◌, ◌≤◌, arith, length, Option, Some, None}
 use Rattle.std.specs.List.{IsAmong}
 use Rattle.std.proofs.lemmas.List.{map-append, length-map}
 use Rattle.std.proofs.lemmas.Option.{some_pair_parts}
@@ -15,15 +15,17 @@ use Rattle.judge.specs.Judge.{judgement, most_pairs}
 use Rattle.judge.specs.Frames.{verdict_width}
 use Rattle.judge.specs.declared.verdict.SlotVerdict.{SlotVerdict}
 use Rattle.judge.specs.declared.verdict.PairVerdict.{PairVerdict}
-use Rattle.cut.specs.Store.{Every, Pair, slot_at, shown}
-use Rattle.cut.specs.Cut.{header_passes, Confirmed}
+use Rattle.cut.specs.Store.{Every, Pair, clean_mark, slot_at, shown}
+use Rattle.cut.specs.Cut.{header_passes, is_empty, Confirmed}
+use Rattle.cut.proofs.StatusLaws.{false_true}
+use Rattle.cut.proofs.StatementLaws.{one_payload}
 use Rattle.cut.proofs.JudgeLaws.{quiet_explained, Explained}
 use Rattle.cut.proofs.PairLaws.{shown_pair, Stands}
 use Rattle.cut.proofs.StateLaws.{beside, asked, Leads, Older, Resting, Flying, flies}
 use Rattle.cut.proofs.RowLaws.{Rested, quiet_of, rested_stands, rested_verdicts, leads_typed, stands_back, rule_at, row_stands}
 use Rattle.plan.specs.Numbers.{winner_number, highest_winner}
-use Rattle.history.specs.History.{Tracked, past, pairs, named, ReadKnown, AllReadKnown, VolumeUnmarked, Promised}
-use Rattle.history.proofs.RowLaws.{stands_number, flight_qualifies, rest_named, fly_named}
+use Rattle.history.specs.History.{Tracked, past, pairs, record_in, read_mark, named, ReadKnown, AllReadKnown, MarkIs, Promised}
+use Rattle.history.proofs.RowLaws.{stands_number, flight_qualifies, quiet_idle, rest_named, rest_counts, flown_unmarked, fly_named}
 
 -- ---- a tracked pair
 
@@ -73,10 +75,14 @@ length_pairs ts = length-map ts (λ (t : Tracked). t.pair)
 abbrev pub top : List Tracked → Pair → List Tracked → ℕ
 top before p behind = highest_winner p.operator (shown (pairs before ++ p ∷ pairs behind)) + 1
 
+-- Of a page among these: the mark is not set.
+abbrev pub PagesUnset : List Tracked → Pair → List Tracked → Type 0
+PagesUnset before p behind = is_empty (pairs before) ≡ false → read_mark (pairs before ++ p ∷ pairs behind) ≡ false
+
 pub data State (ts : List Tracked) : Type 0 where
   all_rest : 1 ≤ length ts → Every Rests ts → State ts
   one_flies : (before : List Tracked) (t : Tracked) (behind : List Tracked) → ts ≡ before ++ t ∷ behind
-      → Every Rests before → Flies t (top before t.pair behind) → Every Rests behind → State ts
+      → Every Rests before → Flies t (top before t.pair behind) → Every Rests behind → PagesUnset before t.pair behind → State ts
 
 -- ---- what is read is known
 
@@ -103,7 +109,7 @@ row_known (Every.more rests all) known rest = AllReadKnown.more (rests_back rest
 -- Of the row ps of a store's pairs, where the lent verdicts were `out`.
 pub record View (ts : List Tracked) (ps : List Pair) (out : List ℕ) : Type 0 where
   pub verdict : List PairVerdict
-  pub judged : Confirmed ps false out verdict (judgement (shown ps) false)
+  pub judged : Confirmed ps (read_mark ps) out verdict (judgement (shown ps) (read_mark ps))
   pub back : AllReadKnown ts verdict
 
 module _ {t : Tracked} {ts : List Tracked} (rests : Rests t) (rest : Every Rests ts) (few : length (t.pair ∷ pairs ts) ≤ most_pairs)
@@ -115,7 +121,8 @@ module _ {t : Tracked} {ts : List Tracked} (rests : Rests t) (rest : Every Rests
         verdict = rested_verdicts (all_rested (Every.more rests rest));
         judged =
             row_stands Every.none (all_rested rest) t.pair (quiet_explained (quiet_of (rested rests)).quiet)
-            (rested_stands (rested rests) (rule_at t.pair.operator (shown (t.pair ∷ pairs ts)) 0)) false (λ flight. refl)
+            (rested_stands (rested rests) (rule_at t.pair.operator (shown (t.pair ∷ pairs ts)) 0)) (read_mark (t.pair ∷ pairs ts))
+            (λ flight. false_true (quiet_idle (quiet_of (rested rests)).quiet) flight)
             (leads_typed rests.led.leads) range few out room;
         back = all_known (Every.more rests rest);
       }
@@ -130,7 +137,7 @@ pub flies_number : {t : Tracked} {n : ℕ} (fly : Flies t n) → winner_number (
 flies_number fly = stands_number (flies_stand fly (λ index number. true) refl refl) fly.led.leads
 
 module _ {before : List Tracked} {t : Tracked} {behind : List Tracked} (rest_before : Every Rests before)
-    (fly : Flies t (top before t.pair behind)) (rest_behind : Every Rests behind) where
+    (fly : Flies t (top before t.pair behind)) (rest_behind : Every Rests behind) (unset : PagesUnset before t.pair behind) where
   abbrev row : List Pair
   row = pairs before ++ t.pair ∷ pairs behind
 
@@ -145,13 +152,14 @@ module _ {before : List Tracked} {t : Tracked} {behind : List Tracked} (rest_bef
       record {
         verdict = rested_verdicts (all_rested rest_before) ++ winner_beside fly.x SlotVerdict.InFlight ∷ rested_verdicts (all_rested rest_behind);
         judged =
-            row_stands (all_rested rest_before) (all_rested rest_behind) t.pair Explained.torn flown_stands false (λ flight. refl)
+            row_stands (all_rested rest_before) (all_rested rest_behind) t.pair Explained.torn flown_stands (read_mark row)
+            (λ flight. flown_unmarked (all_rested rest_before) (read_mark row) fly.x (rested_verdicts (all_rested rest_behind)) unset)
             (leads_typed fly.led.leads) range few out room;
         back = row_known rest_before (known_back flown_stands fly.led.known) rest_behind;
       }
 
   pub flown_named : named (pairs before ++ t.pair ∷ pairs behind) ≡ Some (length (pairs before), other fly.x)
-  flown_named = fly_named (all_rested rest_before) (all_rested rest_behind) t.pair flown_stands
+  flown_named = fly_named (all_rested rest_before) (all_rested rest_behind) t.pair flown_stands unset
 
 pub all_named : {ts : List Tracked} → 1 ≤ length ts → Every Rests ts → named (pairs ts) ≡ None
 all_named some Every.none = absurd (omega arith)
@@ -162,9 +170,9 @@ all_named some (Every.more rests rest) = rest_named (all_rested (Every.more rest
 -- Where no slot is named, every pair rests,
 pub none_named : {ts : List Tracked} → State ts → named (pairs ts) ≡ None → Every Rests ts
 none_named (all_rest some all) is = all
-none_named (one_flies before t behind split rest_before fly rest_behind) is =
+none_named (one_flies before t behind split rest_before fly rest_behind unset) is =
     let there : named (pairs (before ++ t ∷ behind)) ≡ Some (length (pairs before), other fly.x) =
-    ap named (pairs_row before t behind) ∙ flown_named rest_before fly rest_behind in
+    ap named (pairs_row before t behind) ∙ flown_named rest_before fly rest_behind unset in
     let never : ◌≡◌ {A = Option (ℕ × SlotIndex)} None (Some (length (pairs before), other fly.x)) =
     sym is ∙ ap (λ (us : List Tracked). named (pairs us)) split ∙ there in
     absurd cc
@@ -187,6 +195,7 @@ pub record Named (before : List Tracked) (t : Tracked) (behind : List Tracked) (
   pub fly : Flies t (top before t.pair behind)
   pub rest : Every Rests behind
   pub beside : other fly.x ≡ index
+  pub unset : PagesUnset before t.pair behind
 
 pub one_named : (before : List Tracked) (t : Tracked) (behind : List Tracked) (index : SlotIndex) → State (before ++ t ∷ behind)
     → named (pairs before ++ t.pair ∷ pairs behind) ≡ Some (length (pairs before), index) → Named before t behind index
@@ -194,18 +203,57 @@ one_named before t behind index (all_rest some all) is =
     let never : ◌≡◌ {A = Option (ℕ × SlotIndex)} None (Some (length (pairs before), index)) =
     sym (all_named some all) ∙ ap named (pairs_row before t behind) ∙ is in
     absurd cc
-one_named before t behind index (one_flies before₁ t₁ behind₁ split rest_before fly rest_behind) is =
+one_named before t behind index (one_flies before₁ t₁ behind₁ split rest_before fly rest_behind unset) is =
     let there : ◌≡◌ {A = Option (ℕ × SlotIndex)} (Some (length (pairs before), index)) (Some (length (pairs before₁), other fly.x)) =
     sym is
     ∙ ap named (sym (pairs_row before t behind))
     ∙ ap (λ (us : List Tracked). named (pairs us)) split
     ∙ ap named (pairs_row before₁ t₁ behind₁)
-    ∙ flown_named rest_before fly rest_behind in
+    ∙ flown_named rest_before fly rest_behind unset in
     let parts = some_pair_parts _ _ _ _ there in
     let same = same_split before t behind before₁ t₁ behind₁ split (sym (length_pairs before) ∙ parts.0 ∙ length_pairs before₁) in
-    let here : Named before₁ t₁ behind₁ index = record { first = rest_before; fly = fly; rest = rest_behind; beside = sym parts.1 } in
+    let here : Named before₁ t₁ behind₁ index = record { first = rest_before; fly = fly; rest = rest_behind; beside = sym parts.1; unset = unset } in
     subst (λ (us : List Tracked). Named us t behind index) same.0
     (subst (λ (u : Tracked). Named before₁ u behind index) same.1 (subst (λ (us : List Tracked). Named before₁ t₁ us index) same.2 here))
+
+-- ---- the mark
+
+-- It is that of the record that is read from pair 0.
+first_mark : (t : Tracked) (ts : List Tracked) {rule : SlotIndex → Option ℕ → Bool} {x : SlotIndex} {i : SlotInfo} {v : SlotVerdict}
+    → Stands t.pair rule x i v (payload_of i (slot_at x t.pair).bytes) → MarkIs (read_mark (pairs (t ∷ ts))) (pairs (t ∷ ts))
+first_mark t ts {x = x} {i = i} stands r part =
+    ap clean_mark (one_payload t.pair r (payload_of i (slot_at x t.pair).bytes) part stands.part)
+    ∙ ap (λ (won : Option (SlotIndex × SlotInfo)). clean_mark (record_in won t.pair)) (sym stands.won)
+
+rests_mark : (t : Tracked) (ts : List Tracked) → Rests t → MarkIs (read_mark (pairs (t ∷ ts))) (pairs (t ∷ ts))
+rests_mark t ts rests = first_mark t ts (rested_stands (rested rests) (λ index number. true))
+
+pub mark_read : (ts : List Tracked) → State ts → MarkIs (read_mark (pairs ts)) (pairs ts)
+mark_read [] state = tt
+mark_read (t ∷ ts) (all_rest some (Every.more rests rest)) = rests_mark t ts rests
+mark_read ts (one_flies [] t behind is Every.none fly rest_behind unset) =
+    subst (λ (us : List Tracked). MarkIs (read_mark (pairs us)) (pairs us)) (sym is) (first_mark t behind (flies_stand fly (λ index number. true) refl refl))
+mark_read ts (one_flies (u ∷ before) t behind is (Every.more rests rest_before) fly rest_behind unset) =
+    subst (λ (us : List Tracked). MarkIs (read_mark (pairs us)) (pairs us)) (sym is) (rests_mark u (before ++ t ∷ behind) rests)
+
+-- Where no slot is named it counts as it is,
+pub mark_counted : (ts : List Tracked) → State ts → named (pairs ts) ≡ None → (judgement (shown (pairs ts)) (read_mark (pairs ts))).clean ≡ read_mark (pairs ts)
+mark_counted [] (all_rest some all) none = absurd (omega arith)
+mark_counted [] (one_flies [] t behind split rest_before fly rest_behind unset) none = absurd cc
+mark_counted [] (one_flies (u ∷ before) t behind split rest_before fly rest_behind unset) none = absurd cc
+mark_counted (t ∷ ts) state none = rest_counts (all_rested (none_named state none)) (read_mark (pairs (t ∷ ts)))
+
+-- and where a page is, it is not set.
+page_unset : (ts : List Tracked) → State ts → (k : ℕ) (index : SlotIndex) → named (pairs ts) ≡ Some (suc k, index) → read_mark (pairs ts) ≡ false
+page_unset ts (all_rest some all) k index is =
+    let never : ◌≡◌ {A = Option (ℕ × SlotIndex)} None (Some (suc k, index)) = sym (all_named some all) ∙ is in absurd cc
+page_unset ts (one_flies [] t behind split rest_before fly rest_behind unset) k index is =
+    let never : ◌≡◌ {A = Option (ℕ × SlotIndex)} (Some (0, other fly.x)) (Some (suc k, index)) =
+    sym (flown_named rest_before fly rest_behind unset) ∙ ap (λ (us : List Tracked). named (pairs us)) (sym split) ∙ is in
+    let first : 0 ≡ suc k = (some_pair_parts _ _ _ _ never).0 in
+    absurd cc
+page_unset ts (one_flies (u ∷ before) t behind split rest_before fly rest_behind unset) k index is =
+    ap (λ (us : List Tracked). read_mark (pairs us)) split ∙ ap read_mark (pairs_row (u ∷ before) t behind) ∙ unset refl
 
 -- ---- the promise
 
@@ -213,7 +261,7 @@ view : (ts : List Tracked) → State ts → length (pairs ts) ≤ most_pairs →
     → (out : List ℕ) → length out ≡ length (pairs ts) * verdict_width → View ts (pairs ts) out
 view [] (all_rest some Every.none) few range out room = absurd (omega arith)
 view (t ∷ ts) (all_rest some (Every.more rests rest)) few range out room = rest_view rests rest few range out room
-view ts (one_flies before t behind is rest_before fly rest_behind) few range out room =
+view ts (one_flies before t behind is rest_before fly rest_behind unset) few range out room =
     subst
     (λ (us : List Tracked).
     length (pairs us) ≤ most_pairs → operators_in_range true (shown (pairs us)) ≡ true → length out ≡ length (pairs us) * verdict_width
@@ -222,22 +270,24 @@ view ts (one_flies before t behind is rest_before fly rest_behind) few range out
     (λ row_few row_range row_room.
     let row = pairs_row before t behind in
     subst (λ (ps : List Pair). View (before ++ t ∷ behind) ps out) (sym row)
-    (fly_view rest_before fly rest_behind (subst (λ (ps : List Pair). length ps ≤ most_pairs) row row_few)
+    (fly_view rest_before fly rest_behind unset (subst (λ (ps : List Pair). length ps ≤ most_pairs) row row_few)
     (subst (λ (ps : List Pair). operators_in_range true (shown ps) ≡ true) row row_range) out
     (row_room ∙ ap (λ (ps : List Pair). length ps * verdict_width) row)))
     few range room
 
 pub promised : (ts : List Tracked) → State ts → length ts ≤ most_pairs → operators_in_range true (shown (pairs ts)) ≡ true
-    → (out : List ℕ) → length out ≡ length ts * verdict_width → ((vs : List PairVerdict) → AllReadKnown ts vs → VolumeUnmarked (pairs ts)) → Promised ts out
-promised ts state few range out room unmarked =
+    → (out : List ℕ) → length out ≡ length ts * verdict_width → Promised (read_mark (pairs ts)) ts out
+promised ts state few range out room =
     let seen =
     view ts state (subst (λ (n : ℕ). n ≤ most_pairs) (sym (length_pairs ts)) few) range out
     (room ∙ ap (λ (n : ℕ). n * verdict_width) (sym (length_pairs ts))) in
     record {
       verdict = seen.verdict;
-      judgement = judgement (shown (pairs ts)) false;
+      judgement = judgement (shown (pairs ts)) (read_mark (pairs ts));
       judged = seen.judged;
       heal = refl;
       back = seen.back;
-      unmarked = unmarked seen.verdict seen.back;
+      mark = mark_read ts state;
+      counts = mark_counted ts state;
+      page = page_unset ts state;
     }

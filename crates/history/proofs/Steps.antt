@@ -16,7 +16,7 @@ use Rattle.slot.specs.declared.slot.Expect.{Expect}
 use Rattle.judge.specs.Numbers.{numbers, highest}
 use Rattle.pair.specs.Pair.{winner_info}
 use Rattle.cut.specs.Store.{Every, Slot, Pair, slot_at, status, report, shown, last_record, SoundPair}
-use Rattle.cut.specs.Cut.{Write, size, expect, old, new, left, with_bytes, with_slot, Possible, whole, header_passes, payload_in}
+use Rattle.cut.specs.Cut.{Write, store, size, expect, old, new, left, with_bytes, with_slot, Possible, whole, header_passes, payload_in}
 use Rattle.cut.proofs.EveryLaws.{every_split, every_join}
 use Rattle.cut.proofs.StatusLaws.{false_true, passed_is}
 use Rattle.cut.proofs.PairLaws.{other_other, shown_pair, last_is}
@@ -28,9 +28,9 @@ use Rattle.cut.proofs.WriteLaws.{BesideWinner, old_is, writes, fitting}
 use Rattle.cut.proofs.LeftLaws.{blank_fails, resting_short, flying_short, finished_wins, left_size, left_short, left_bytes, left_resting, left_flying}
 use Rattle.cut.proofs.RowLaws.{rested_stands}
 use Rattle.plan.specs.Numbers.{winner_number, highest_winner}
-use Rattle.history.specs.History.{Past, Tracked, pairs, past, standing, past_of, started, named, Turn, Allowed, same_header, under_after, valid_after, past_after, HarmfulAccident, tracked, Put, write_to, finished, torn_by}
+use Rattle.history.specs.History.{Past, Tracked, pairs, past, standing, past_of, started, read_mark, named, Turn, Allowed, same_header, under_after, valid_after, past_after, HarmfulAccident, tracked, Put, write_to, finished, torn_by}
 use Rattle.history.proofs.RowLaws.{stands_number, rested_highest, winners_are}
-use Rattle.history.proofs.States.{OlderVersion, Led, Rests, Flies, rested, all_rested, pairs_row, top, State, flies_stand, flies_number, flown_named, all_named, length_pairs, none_named, one_named}
+use Rattle.history.proofs.States.{OlderVersion, Led, Rests, Flies, rested, all_rested, pairs_row, top, PagesUnset, State, flies_stand, flies_number, flown_named, all_named, length_pairs, none_named, one_named}
 
 some_row : (before : List Tracked) (t : Tracked) (behind : List Tracked) → 1 ≤ length (before ++ t ∷ behind)
 some_row before t behind = let all = length-append before (t ∷ behind) in omega arith
@@ -113,18 +113,31 @@ module _ (before : List Tracked) (t : Tracked) (behind : List Tracked) (q : Put)
     pub here : Rests t ⊎ Flies t (top before t.pair behind)
     pub rest : Every Rests behind
     pub number : n ≡ top before t.pair behind
+    pub unset : PagesUnset before t.pair behind
 
   pub turn : State (before ++ t ∷ behind) → (n : ℕ) → Turn w n → Placed n
-  turn state n (Turn.free none) =
+  turn state n (Turn.free none first) =
       let all = none_named state (ap named (pairs_row before t behind) ∙ none) in
       let split = every_split before t behind all in
       let o = t.pair.operator in
       let tops = subst (λ (ps : List Pair). highest (numbers o (shown ps)) ≡ highest_winner o (shown ps)) (pairs_row before t behind)
       (rested_highest o (all_rested all)) in
-      record { first = split.0; here = inl split.1; rest = split.2; number = ap (λ (k : ℕ). k + 1) tops }
+      record { first = split.0; here = inl split.1; rest = split.2; number = ap (λ (k : ℕ). k + 1) tops; unset = unset }
+    where
+      unset : PagesUnset before t.pair behind
+      unset behind_it = not_set (read_mark (store w)) refl
+        where
+          not_set : (m : Bool) → read_mark (store w) ≡ m → read_mark (store w) ≡ false
+          not_set true is = false_true behind_it (first is)
+          not_set false is = is
   turn state n (Turn.healing is) =
       let there = one_named before t behind q.index state is in
-      record { first = there.first; here = inr there.fly; rest = there.rest; number = refl }
+      record { first = there.first; here = inr there.fly; rest = there.rest; number = refl; unset = there.unset }
+
+-- A write of a page leaves the mark as it is.
+unset_kept : (before : List Tracked) (p : Pair) (behind : List Tracked) → PagesUnset before p behind → (q : Pair) → PagesUnset before q behind
+unset_kept [] p behind unset q behind_it = absurd cc
+unset_kept (u ∷ before) p behind unset q behind_it = unset refl
 
 -- ---- the pair after the write
 
@@ -268,7 +281,7 @@ module _ (before : List Tracked) (t : Tracked) (behind : List Tracked) (q : Put)
 
   outcome_state : {u : Tracked} → Outcome u → State (before ++ u ∷ behind)
   outcome_state {u} (rests known) = State.all_rest (some_row before u behind) (every_join placed.first known placed.rest)
-  outcome_state {u} (flies fly beside_is) = State.one_flies before u behind refl placed.first fly placed.rest
+  outcome_state {u} (flies fly beside_is) = State.one_flies before u behind refl placed.first fly placed.rest (unset_kept before t.pair behind placed.unset u.pair)
 
   -- So no other slot is named, and none where it rests.
   rests_named : {u : Tracked} → Rests u → named (pairs (before ++ u ∷ behind)) ≡ None
@@ -280,7 +293,7 @@ module _ (before : List Tracked) (t : Tracked) (behind : List Tracked) (q : Put)
   outcome_named {u} (flies fly beside_is) =
       inr
       (ap named (pairs_row before u behind)
-      ∙ flown_named placed.first fly placed.rest
+      ∙ flown_named placed.first fly placed.rest (unset_kept before t.pair behind placed.unset u.pair)
       ∙ ap₂ (λ (k : ℕ) (at : SlotIndex). Some (k, at)) (length_pairs before) beside_is)
 
   -- A write that is finished.

@@ -1,22 +1,26 @@
--- The theorem over histories: each step leads from a state to the next, and the volume record's mark stays false.
-use Rattle.std.proofs.Common.{◌≡◌, refl, sym, ap, subst, ◌∙◌, true, false, List, [], ◌∷◌, ◌++◌, ℕ, zero, suc, ◌≤◌, arith, length, map}
+-- The theorem over histories: each step leads from a state to the next; and where no write sets the volume record's mark, it stays false.
+use Rattle.std.proofs.Common.{◌≡◌, refl, sym, ap, subst, ◌∙◌, Bool, true, false, List, [], ◌∷◌, ◌++◌, ℕ, zero, suc, ◌≤◌, arith, length, map, Option, Some}
 use Rattle.std.specs.List.{IsAmong}
 use Rattle.std.proofs.lemmas.List.{length-map}
+use Rattle.slot.specs.Payload.{payload as payload_of}
 use Rattle.slot.specs.Write.{header_crc}
+use Rattle.slot.specs.declared.slot.SlotIndex.{SlotIndex}
 use Rattle.slot.specs.declared.slot.SlotInfo.{SlotInfo}
+use Rattle.pair.specs.Pair.{winner_info}
 use Rattle.judge.specs.Operators.{operators_in_range}
-use Rattle.judge.specs.Judge.{most_pairs}
-use Rattle.judge.specs.declared.verdict.PairVerdict.{PairVerdict}
-use Rattle.cut.specs.Store.{Every, Pair, clean_mark, shown, store_mark, IsRow}
-use Rattle.cut.specs.Cut.{Write, new, left, is_empty}
+use Rattle.judge.specs.Judge.{most_pairs, judgement}
+use Rattle.cut.specs.Store.{Every, Pair, clean_mark, slot_at, report, shown, store_mark, SoundPair, IsRow}
+use Rattle.cut.specs.Cut.{Tear, Write, size, new, left, Possible, is_empty}
 use Rattle.cut.proofs.EveryLaws.{same_length}
 use Rattle.cut.proofs.StatusLaws.{false_true}
 use Rattle.cut.proofs.StatementLaws.{one_payload}
+use Rattle.cut.proofs.PairLaws.{last_is}
+use Rattle.cut.proofs.StateLaws.{sound_won}
 use Rattle.cut.proofs.Theorem.{row_range}
-use Rattle.cut.proofs.RowLaws.{range_kept}
-use Rattle.history.specs.History.{Past, Tracked, past, past_after, pairs, started, HistoryAccident, HarmfulAccident, write_to, finished, torn_by, Reached, AllReadKnown, VolumeUnmarked, HistoryTheorem}
-use Rattle.history.specs.Laws.{KnownRecords, ReadIsKnown, AsWritten, LinkAtMost, OnlyTheWritten, HarmfulAlone, HarmfulIsAccident}
-use Rattle.history.proofs.States.{State, pairs_row, all_named, promised}
+use Rattle.cut.proofs.RowLaws.{range_kept, rested_stands}
+use Rattle.history.specs.History.{Past, Tracked, past, past_after, pairs, started, record_in, read_mark, Turn, HistoryAccident, HarmfulAccident, write_to, finished, torn_by, Reached, Promised, HistoryTheorem}
+use Rattle.history.specs.Laws.{AnyStoreBegins, AnyWriteAllowed, AnyVolumeWriteAllowed, AnyHealAllowed, AnyCutGoesOn, KnownRecords, ReadIsKnown, Unmarked, UnmarkedRead, UnmarkedNamed, TheoremWithoutMark, StartMark, FinishedMark, AsWritten, LinkAtMost, OnlyTheWritten, HarmfulAlone, HarmfulIsAccident}
+use Rattle.history.proofs.States.{Led, Rests, rested, State, pairs_row, flies_stand, all_named, none_named, mark_counted, promised}
 use Rattle.history.proofs.Steps.{start_all, tracked_operator, tracked_known, under_whole, under_kept, finish_state, finish_named, cut_state, cut_named}
 
 -- ---- the states that are reached
@@ -25,7 +29,7 @@ row_some : {ps : List Pair} → IsRow ps → 1 ≤ length (map started ps)
 row_some (IsRow.row volume pages range) = omega arith
 
 pub reached_state : {ts : List Tracked} → Reached HarmfulAccident ts → State ts
-reached_state (Reached.start sound few unmarked) = State.all_rest (row_some sound.row) (start_all sound.pairs)
+reached_state (Reached.start sound few) = State.all_rest (row_some sound.row) (start_all sound.pairs)
 reached_state (Reached.finish before t behind reached q allowed) = finish_state before t behind q (reached_state reached) allowed
 reached_state (Reached.cut before t behind reached q allowed possible none) =
     cut_state before t behind q (reached_state reached) allowed possible none
@@ -33,7 +37,7 @@ reached_state (Reached.cut before t behind reached q allowed possible none) =
 -- ---- and the number of their pairs stays
 
 pub reached_few : {ts : List Tracked} → Reached HarmfulAccident ts → length ts ≤ most_pairs
-reached_few (Reached.start {ps} sound few unmarked) = omega (arith, length-map ps started, few)
+reached_few (Reached.start {ps} sound few) = omega (arith, length-map ps started, few)
 reached_few (Reached.finish before t behind reached q allowed) =
     subst (λ (n : ℕ). n ≤ most_pairs) (same_length before t (finished (write_to before t behind q) t) behind) (reached_few reached)
 reached_few (Reached.cut before t behind reached q allowed possible none) =
@@ -54,23 +58,23 @@ step_range before t u behind same range =
     ∙ range
 
 pub reached_range : {ts : List Tracked} → Reached HarmfulAccident ts → operators_in_range true (shown (pairs ts)) ≡ true
-reached_range (Reached.start {ps} sound few unmarked) =
+reached_range (Reached.start {ps} sound few) =
     ap (λ (qs : List Pair). operators_in_range true (shown qs)) (started_pairs ps) ∙ row_range sound.row
 reached_range (Reached.finish before t behind reached q allowed) =
     step_range before t (finished (write_to before t behind q) t) behind (tracked_operator q.index _ _ (q.payload ∷ []) t) (reached_range reached)
 reached_range (Reached.cut before t behind reached q allowed possible none) =
     step_range before t (torn_by (write_to before t behind q) t) behind (tracked_operator q.index _ _ (q.payload ∷ t.known) t) (reached_range reached)
 
--- ---- the volume record's mark stays false
+-- ---- in a history without the mark it stays false
 
-abbrev Unmarked : List (List ℕ) → Type 0
-Unmarked known = Every (λ (r : List ℕ). clean_mark r ≡ false) known
+abbrev AllUnmarked : List (List ℕ) → Type 0
+AllUnmarked known = Every (λ (r : List ℕ). clean_mark r ≡ false) known
 
 abbrev Marks : List Tracked → Type 0
 Marks [] = Unit {0}
-Marks (t ∷ ts) = Unmarked t.known
+Marks (t ∷ ts) = AllUnmarked t.known
 
-among_unmarked : (known : List (List ℕ)) {r : List ℕ} → IsAmong known r → Unmarked known → clean_mark r ≡ false
+among_unmarked : (known : List (List ℕ)) {r : List ℕ} → IsAmong known r → AllUnmarked known → clean_mark r ≡ false
 among_unmarked [] among Every.none = let none = among.1.0 in absurd (omega arith)
 among_unmarked (q ∷ known) (zero, place) (Every.more here rest) = ap clean_mark place.1 ∙ here
 among_unmarked (q ∷ known) (suc k, place) (Every.more here rest) = among_unmarked known (k, (let within = place.0 in omega arith, place.1)) rest
@@ -80,25 +84,77 @@ start_marks [] unmarked = tt
 start_marks (p ∷ ps) unmarked = Every.more unmarked Every.none
 
 step_marks : (before : List Tracked) (t u : Tracked) (behind : List Tracked) → Marks (before ++ t ∷ behind)
-    → (is_empty (pairs before) ≡ true → Unmarked t.known → Unmarked u.known) → Marks (before ++ u ∷ behind)
+    → (is_empty (pairs before) ≡ true → AllUnmarked t.known → AllUnmarked u.known) → Marks (before ++ u ∷ behind)
 step_marks [] t u behind marks step = step refl marks
 step_marks (q ∷ before) t u behind marks step = marks
 
-reached_marks : {ts : List Tracked} → Reached HarmfulAccident ts → Marks ts
-reached_marks (Reached.start {ps} sound few unmarked) = start_marks ps unmarked
-reached_marks (Reached.finish before t behind reached q allowed) =
+unmarked_marks : {ts : List Tracked} {reached : Reached HarmfulAccident ts} → Unmarked ts reached → Marks ts
+unmarked_marks (Unmarked.start {ps} unmarked) = start_marks ps unmarked
+unmarked_marks (Unmarked.finish {before} {t} {behind} {q = q} before_it unmarked) =
     let w = write_to before t behind q in
-    step_marks before t (finished w t) behind (reached_marks reached)
-    (λ first marks. subst Unmarked (sym (tracked_known q.index _ _ (q.payload ∷ []) t)) (Every.more (allowed.unmarked first) Every.none))
-reached_marks (Reached.cut before t behind reached q allowed possible none) =
+    step_marks before t (finished w t) behind (unmarked_marks before_it)
+    (λ first marks. subst AllUnmarked (sym (tracked_known q.index _ _ (q.payload ∷ []) t)) (Every.more (unmarked first) Every.none))
+unmarked_marks (Unmarked.cut {before} {t} {behind} {q = q} before_it unmarked) =
     let w = write_to before t behind q in
-    step_marks before t (torn_by w t) behind (reached_marks reached)
-    (λ first marks. subst Unmarked (sym (tracked_known q.index _ _ (q.payload ∷ t.known) t)) (Every.more (allowed.unmarked first) marks))
+    step_marks before t (torn_by w t) behind (unmarked_marks before_it)
+    (λ first marks. subst AllUnmarked (sym (tracked_known q.index _ _ (q.payload ∷ t.known) t)) (Every.more (unmarked first) marks))
 
-mark_read : {ts : List Tracked} {vs : List PairVerdict} → AllReadKnown ts vs → Marks ts → VolumeUnmarked (pairs ts)
-mark_read AllReadKnown.none marks = tt
-mark_read (AllReadKnown.more {t} known rest) marks =
-    λ r part. ap clean_mark (one_payload t.pair r known.payload part known.back.part) ∙ among_unmarked t.known known.known marks
+-- The record in pair 0's winner is known.
+first_unmarked : {t : Tracked} {x : SlotIndex} {i : SlotInfo} → Led t x i → winner_info (report t.pair) ≡ Some (x, i) → AllUnmarked t.known
+    → clean_mark (record_in (winner_info (report t.pair)) t.pair) ≡ false
+first_unmarked {t} led won unmarked =
+    ap (λ (found : Option (SlotIndex × SlotInfo)). clean_mark (record_in found t.pair)) won ∙ among_unmarked t.known led.known unmarked
+
+state_unmarked : (ts : List Tracked) → State ts → Marks ts → read_mark (pairs ts) ≡ false
+state_unmarked [] state marks = refl
+state_unmarked (t ∷ ts) (State.all_rest some (Every.more rests rest)) marks = first_unmarked rests.led (rested_stands (rested rests) (λ index number. true)).won marks
+state_unmarked ts (State.one_flies [] t behind is Every.none fly rest_behind unset) marks =
+    subst (λ (us : List Tracked). Marks us → read_mark (pairs us) ≡ false) (sym is)
+    (λ first. first_unmarked fly.led (flies_stand fly (λ index number. true) refl refl).won first) marks
+state_unmarked ts (State.one_flies (u ∷ before) t behind is (Every.more rests rest_before) fly rest_behind unset) marks =
+    subst (λ (us : List Tracked). Marks us → read_mark (pairs us) ≡ false) (sym is)
+    (λ first. first_unmarked rests.led (rested_stands (rested rests) (λ index number. true)).won first) marks
+
+pub unmarked_read : UnmarkedRead
+unmarked_read ts reached unmarked = state_unmarked ts (reached_state reached) (unmarked_marks unmarked)
+
+first_mark : (p : Pair) (ps : List Pair) → Every SoundPair (p ∷ ps) → read_mark (pairs (map started (p ∷ ps))) ≡ store_mark (p ∷ ps)
+first_mark p ps (Every.more sound rest) =
+    ap (λ (won : Option (SlotIndex × SlotInfo)). clean_mark (record_in won p)) (sound_won p sound) ∙ ap clean_mark (sym (last_is p sound))
+
+pub unmarked_named : UnmarkedNamed
+unmarked_named ts reached unmarked =
+    ap (λ (clean : Bool). (judgement (shown (pairs ts)) clean).heal) (unmarked_read ts reached unmarked)
+
+pub start_mark : StartMark
+start_mark [] sound = refl
+start_mark (p ∷ ps) sound = first_mark p ps sound.pairs
+
+-- ---- after a write of pair 0 that is finished
+
+among_one : {r q : List ℕ} → IsAmong (q ∷ []) r → r ≡ q
+among_one (zero, place) = place.1
+among_one (suc k, place) = let within = place.0 in absurd (omega arith)
+
+one_read : (t : Tracked) (ts : List Tracked) (q : List ℕ) → Rests t → t.known ≡ q ∷ [] → read_mark (pairs (t ∷ ts)) ≡ clean_mark q
+one_read t ts q rests known =
+    ap (λ (found : Option (SlotIndex × SlotInfo)). clean_mark (record_in found t.pair)) (rested_stands (rested rests) (λ index number. true)).won
+    ∙ ap clean_mark (among_one (subst (λ (all : List (List ℕ)). IsAmong all (payload_of rests.i (slot_at rests.x t.pair).bytes)) known rests.led.known))
+
+first_rests : {t : Tracked} {ts : List Tracked} → Every Rests (t ∷ ts) → Rests t
+first_rests (Every.more rests rest) = rests
+
+pub finished_mark : FinishedMark
+finished_mark t behind q reached allowed =
+    let u = finished (write_to [] t behind q) t in
+    let state = finish_state [] t behind q (reached_state reached) allowed in
+    let none = finish_named [] t behind q (reached_state reached) allowed in
+    let read = one_read u behind q.payload (first_rests (none_named state none)) (tracked_known q.index _ _ (q.payload ∷ []) t) in
+    record {
+      read = read;
+      answered =
+          subst (λ (m : Bool). (judgement (shown (pairs (u ∷ behind))) m).clean ≡ m) read (mark_counted (u ∷ behind) state none);
+    }
 
 -- ---- what is known
 
@@ -144,18 +200,50 @@ only_the_written =
 
 pub harmful_alone : HarmfulAlone
 harmful_alone ts reached out room =
-    promised ts (reached_state reached) (reached_few reached) (reached_range reached) out room (λ vs back. mark_read back (reached_marks reached))
+    promised ts (reached_state reached) (reached_few reached) (reached_range reached) out room
 
 pub harmful_is_accident : HarmfulIsAccident
 harmful_is_accident w before winner (HarmfulAccident.header header not_valid) = HistoryAccident.header header
 harmful_is_accident w before winner (HarmfulAccident.payload payload) = HistoryAccident.payload payload
 
-fewer : {ts : List Tracked} → Reached HistoryAccident ts → Reached HarmfulAccident ts
-fewer (Reached.start sound few unmarked) = Reached.start sound few unmarked
+unfoldable fewer : {ts : List Tracked} → Reached HistoryAccident ts → Reached HarmfulAccident ts
+fewer (Reached.start sound few) = Reached.start sound few
 fewer (Reached.finish before t behind reached q allowed) = Reached.finish before t behind (fewer reached) q allowed
 fewer (Reached.cut before t behind reached q allowed possible none) =
     Reached.cut before t behind (fewer reached) q allowed possible
     (λ accident. none (harmful_is_accident (write_to before t behind q) (past q.index t) allowed.correct.winner accident))
 
+fewer_unmarked : {ts : List Tracked} {reached : Reached HistoryAccident ts} → Unmarked ts reached → Unmarked ts (fewer reached)
+unfolding fewer
+fewer_unmarked (Unmarked.start {ps} {sound} {few} unmarked) = Unmarked.start {ps = ps} {sound = sound} {few = few} unmarked
+fewer_unmarked (Unmarked.finish before_it unmarked) = Unmarked.finish (fewer_unmarked before_it) unmarked
+fewer_unmarked (Unmarked.cut before_it unmarked) = Unmarked.cut (fewer_unmarked before_it) unmarked
+
 pub history_theorem : HistoryTheorem
 history_theorem ts reached = harmful_alone ts (fewer reached)
+
+pub theorem_without_mark : TheoremWithoutMark
+theorem_without_mark ts reached unmarked out room =
+    subst (λ (m : Bool). Promised m ts out) (unmarked_read ts (fewer reached) (fewer_unmarked unmarked)) (history_theorem ts reached out room)
+
+-- ---- what it asks for
+
+pub any_store_begins : AnyStoreBegins
+any_store_begins ps sound few = Reached.start sound few
+
+pub any_write_allowed : AnyWriteAllowed
+any_write_allowed w none unset correct = record { number = _; turn = Turn.free none (λ set. false_true unset set); correct = correct }
+
+pub any_volume_write_allowed : AnyVolumeWriteAllowed
+any_volume_write_allowed w none volume correct = record { number = _; turn = Turn.free none (λ set. ap is_empty volume); correct = correct }
+
+pub any_heal_allowed : AnyHealAllowed
+any_heal_allowed w named_it correct = record { number = _; turn = Turn.healing named_it; correct = correct }
+
+pub any_cut_goes_on : AnyCutGoesOn
+any_cut_goes_on before t behind q so_far allowed =
+    record {
+      finished_write = Reached.finish before t behind so_far q allowed;
+      torn_write = λ none k is point. Reached.cut before t behind so_far q allowed (subst (λ (tear : Tear). Possible tear (size (write_to before t behind q))) (sym is) point) none;
+      torn_sectors = λ none reached is. Reached.cut before t behind so_far q allowed (subst (λ (tear : Tear). Possible tear (size (write_to before t behind q))) (sym is) tt) none;
+    }

@@ -1,26 +1,29 @@
--- The theorem over histories (docs/FORMAT.md, "A history of writes"): a sound store is taken through any number of writes, each finished
--- or cut, in ascending order or by sectors, and the writes that heal may be cut too. Unless an accident happened, after each of them every
--- pair is judged Confirmed, the store is writable, and each record read is the last one finished or one begun after it.
+-- The theorem over histories (docs/FORMAT.md, "The life of a store"): a sound store is taken through any number of writes, each finished
+-- or cut, in ascending order or by sectors, and the writes that heal may be cut too. The judge is handed the clean mark of the record that is
+-- read from pair 0; writes of pair 0 set it and clear it, and while it is set no other pair is written. Unless an accident happened, after
+-- each write every pair is judged Confirmed, the store is writable, and each record read is the last one finished or one begun after it.
 --
 -- Stores, writes, cuts and what is read back are those of the cut theorem, and the numbers those that `next_number` and `heal_number`
 -- answer.
-use Rattle.std.specs.Prelude.{◌≡◌, Bool, true, false, nat_eq, if◌then◌else◌, List, [], ◌∷◌, ◌++◌, ℕ, ◌+◌, ◌*◌, ◌≤◌, length, take, map, Option, Some, None}
+use Rattle.std.specs.Prelude.{◌≡◌, Bool, true, false, nat_eq, if◌then◌else◌, List, [], ◌∷◌, ◌++◌, ℕ, suc, ◌+◌, ◌*◌, ◌≤◌, length, take, map, Option, Some, None}
 use Rattle.std.specs.List.{IsAmong}
 use lib.Pointwise.{pointwise}
 use Rattle.codec.specs.Bytes.{le32}
 use Rattle.codec.specs.Crc32c.{crc32c}
+use Rattle.slot.specs.Payload.{payload as payload_of}
 use Rattle.slot.specs.Read.{validate}
 use Rattle.slot.specs.Write.{header_crc}
 use Rattle.slot.specs.declared.slot.SlotIndex.{SlotIndex}
 use Rattle.slot.specs.declared.slot.SlotInfo.{SlotInfo}
 use Rattle.slot.specs.declared.slot.SlotFields.{SlotFields}
 use Rattle.slot.specs.declared.slot.SlotStatus.{SlotStatus}
+use Rattle.pair.specs.Pair.{winner_info}
 use Rattle.judge.specs.Verdict.{by_index}
 use Rattle.judge.specs.Judge.{most_pairs, judgement}
 use Rattle.judge.specs.Frames.{verdict_width}
 use Rattle.judge.specs.declared.verdict.PairVerdict.{PairVerdict}
 use Rattle.judge.specs.declared.verdict.Judgement.{Judgement}
-use Rattle.cut.specs.Store.{Slot, Pair, clean_mark, shown, last_record, store_mark, Sound}
+use Rattle.cut.specs.Store.{Slot, Pair, clean_mark, slot_at, report, shown, last_record, Sound}
 use Rattle.cut.specs.Cut.{Tear, Write, store, size, expect, old, new, left, with_slot, Possible, next_number, CorrectWith, header_passes, payload_by, is_empty, PayloadIs, ReadBack, Confirmed}
 use Rattle.plan.specs.Numbers.{highest_winner}
 
@@ -55,27 +58,38 @@ past_of s = record { under = standing s.bytes; valid = s.bytes }
 abbrev pub started : Pair → Tracked
 started p = record { pair = p; a = past_of p.a; b = past_of p.b; known = last_record p ∷ [] }
 
+-- ---- the clean mark
+
+-- The record in the slot that `decide` finds current.
+abbrev pub record_in : Option (SlotIndex × SlotInfo) → Pair → List ℕ
+record_in (Some won) p = payload_of won.1 (slot_at won.0 p).bytes
+record_in None p = []
+
+-- The clean mark of the record that is read from pair 0.
+abbrev pub read_mark : List Pair → Bool
+read_mark [] = false
+read_mark (p ∷ ps) = clean_mark (record_in (winner_info (report p)) p)
+
 -- ---- whose turn it is
 
--- The slot that the judge names for healing, handed false.
+-- The slot that the judge names for healing, handed that mark.
 abbrev pub named : List Pair → Option (ℕ × SlotIndex)
-named ps = (judgement (shown ps) false).heal
+named ps = (judgement (shown ps) (read_mark ps)).heal
 
 -- The number of a write that heals a pair of the store: one above the winners of its operator.
 abbrev pub heal_number : List Pair → Pair → ℕ
 heal_number ps p = highest_winner p.operator (shown ps) + 1
 
--- Where a slot is named, the next write goes there; otherwise it is any. So its number is n.
+-- Where a slot is named, the next write goes there; otherwise it is any, or, where the mark is set, any of pair 0. So its number is n.
 pub data Turn (w : Write) : ℕ → Type 0 where
-  free : named (store w) ≡ None → Turn w (next_number (store w) w.pair)
+  free : named (store w) ≡ None → (read_mark (store w) ≡ true → is_empty w.before ≡ true) → Turn w (next_number (store w) w.pair)
   healing : named (store w) ≡ Some (length w.before, w.index) → Turn w (heal_number (store w) w.pair)
 
--- It is the write's turn, it is correct, and it does not set the clean mark.
+-- It is the write's turn, and it is correct. Of pair 0 it may set the mark or clear it, where it heals too.
 pub record Allowed (w : Write) : Type 0 where
   pub number : ℕ
   pub turn : Turn w number
   pub correct : CorrectWith number w
-  pub unmarked : is_empty w.before ≡ true → clean_mark w.payload ≡ false
 
 -- ---- what a write leaves
 
@@ -157,8 +171,8 @@ torn_by w t = tracked w.index (left w) (past_after w (past w.index t)) (w.payloa
 
 -- The stores that a history leads to, in which none of these accidents happened.
 pub data Reached (Accident : Write → Past → SlotInfo → Type 0) : List Tracked → Type 0 where
-  -- A sound store of no more pairs than are judged, whose clean mark is false.
-  start : {ps : List Pair} → Sound ps → length ps ≤ most_pairs → store_mark ps ≡ false → Reached Accident (map started ps)
+  -- A sound store of no more pairs than are judged.
+  start : {ps : List Pair} → Sound ps → length ps ≤ most_pairs → Reached Accident (map started ps)
   -- A write that is finished.
   finish : (before : List Tracked) (t : Tracked) (behind : List Tracked) → Reached Accident (before ++ t ∷ behind)
       → (q : Put) → Allowed (write_to before t behind q)
@@ -182,20 +196,28 @@ pub data AllReadKnown : List Tracked → List PairVerdict → Type 0 where
   more : {t : Tracked} {v : PairVerdict} {ts : List Tracked} {vs : List PairVerdict} → ReadKnown t v → AllReadKnown ts vs
       → AllReadKnown (t ∷ ts) (v ∷ vs)
 
--- The mark of what is read from pair 0 is false.
-abbrev pub VolumeUnmarked : List Pair → Type 0
-VolumeUnmarked [] = Unit {0}
-VolumeUnmarked (p ∷ ps) = (r : List ℕ) → PayloadIs p r → clean_mark r ≡ false
+-- What a host reads from pair 0 has this mark.
+abbrev pub MarkIs : Bool → List Pair → Type 0
+MarkIs clean [] = Unit {0}
+MarkIs clean (p ∷ ps) = (r : List ℕ) → PayloadIs p r → clean_mark r ≡ clean
 
--- Where the lent verdicts were `out`: the judge is handed false, which is the mark that a host reads.
-pub record Promised (ts : List Tracked) (out : List ℕ) : Type 0 where
+-- Under this mark, where the lent verdicts were `out`.
+pub record Promised (clean : Bool) (ts : List Tracked) (out : List ℕ) : Type 0 where
   pub verdict : List PairVerdict
   pub judgement : Judgement
-  pub judged : Confirmed (pairs ts) false out verdict judgement
+  -- The judge is handed the mark
+  pub judged : Confirmed (pairs ts) clean out verdict judgement
+  -- that a host reads, so it will be handed the same one again.
+  pub mark : MarkIs clean (pairs ts)
   -- The slot that it names is the one by which the next write goes.
   pub heal : judgement.heal ≡ named (pairs ts)
   pub back : AllReadKnown ts verdict
-  pub unmarked : VolumeUnmarked (pairs ts)
+  -- Where no slot is named, the mark counts as it is.
+  pub counts : judgement.heal ≡ None → judgement.clean ≡ clean
+  -- A page is named only where the mark is not set.
+  pub page : (k : ℕ) (index : SlotIndex) → judgement.heal ≡ Some (suc k, index) → clean ≡ false
 
 abbrev pub HistoryTheorem : Type 0
-HistoryTheorem = (ts : List Tracked) → Reached HistoryAccident ts → (out : List ℕ) → length out ≡ length ts * verdict_width → Promised ts out
+HistoryTheorem =
+    (ts : List Tracked) → Reached HistoryAccident ts → (out : List ℕ) → length out ≡ length ts * verdict_width
+    → Promised (read_mark (pairs ts)) ts out

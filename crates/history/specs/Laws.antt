@@ -1,24 +1,59 @@
--- Laws on the words of the theorem over histories (docs/FORMAT.md, "A history of writes"): what is known, what is no accident and which of
--- them it needs, which slot is named, which number a write has, and that the functions which plan a write plan those of a history. Each is
--- the contract of a function.
-use Rattle.std.specs.Prelude.{◌≡◌, ◌⊎◌, true, false, Some, None, Ok, List, [], ◌∷◌, ◌++◌, ℕ, ◌*◌, ◌≤◌, length, take, map, slice_get}
+-- Laws on the words of the theorem over histories (docs/FORMAT.md, "The life of a store"): what it asks for, what is known, which mark is read,
+-- what is no accident and which of them it needs, which slot is named, which number a write has, and that the functions which plan a write plan
+-- those of a history. Each is the contract of a function.
+use Rattle.std.specs.Prelude.{◌≡◌, ◌⊎◌, Bool, true, false, Some, None, Ok, List, [], ◌∷◌, ◌++◌, ℕ, ◌*◌, ◌≤◌, length, take, map, slice_get}
 use Rattle.std.specs.List.{IsAmong}
 use Rattle.slot.specs.Write.{header_crc}
 use Rattle.slot.specs.declared.slot.SlotIndex.{SlotIndex}
 use Rattle.slot.specs.declared.slot.SlotInfo.{SlotInfo}
 use Rattle.judge.specs.Numbers.{numbers, place, highest, highest_other}
 use Rattle.judge.specs.Operators.{operators_in_range}
-use Rattle.judge.specs.Judge.{most_pairs}
+use Rattle.judge.specs.Judge.{most_pairs, judgement}
 use Rattle.judge.specs.Frames.{verdict_width}
 use Rattle.judge.specs.declared.verdict.PairVerdict.{PairVerdict}
-use Rattle.cut.specs.Store.{Every, Pair, clean_mark, shown, last_record, frames, Sound}
-use Rattle.cut.specs.Cut.{Tear, Write, store, size, old, new, left, Possible, header_passes, is_empty, PayloadIs}
+use Rattle.judge.specs.Same.{mark}
+use Rattle.cut.specs.Store.{Every, Pair, clean_mark, shown, last_record, store_mark, frames, Sound}
+use Rattle.cut.specs.Cut.{Tear, Ascending, Sectors, Write, store, size, old, new, left, Possible, CorrectWith, CorrectWrite, header_passes, is_empty, PayloadIs}
 use Rattle.plan.specs.declared.write.Plan.{Plan}
 use Rattle.plan.specs.Numbers.{after, of_operator, highest_winner, next_number, heal_number}
 use Rattle.plan.specs.Plan.{plan_write}
 use Rattle.plan.specs.Heal.{plan_heal}
 use Rattle.plan.specs.Promise.{NumberedPair, write_of, IsGiven}
-use Rattle.history.specs.History.{Past, Tracked, past, pairs, standing, started, named, Allowed, HistoryAccident, HarmfulAccident, Put, write_to, finished, torn_by, Reached, ReadKnown, Promised}
+use Rattle.history.specs.History.{Past, Tracked, past, pairs, standing, started, read_mark, named, heal_number as healing_number, Allowed, HistoryAccident, HarmfulAccident, Put, write_to, finished, torn_by, Reached, ReadKnown, Promised}
+
+-- ---- what a history asks for
+
+-- Any sound store of up to 112 pairs may be its beginning, whatever its mark.
+abbrev pub AnyStoreBegins : Type 0
+AnyStoreBegins = (ps : List Pair) → Sound ps → length ps ≤ 112 → Reached HistoryAccident (map started ps)
+
+-- Where no slot is named and the mark that is read is not set, any correct write may follow;
+abbrev pub AnyWriteAllowed : Type 0
+AnyWriteAllowed = (w : Write) → named (store w) ≡ None → read_mark (store w) ≡ false → CorrectWrite w → Allowed w
+
+-- where none is named, any correct write of pair 0, whatever mark is read and whatever mark it has;
+abbrev pub AnyVolumeWriteAllowed : Type 0
+AnyVolumeWriteAllowed = (w : Write) → named (store w) ≡ None → w.before ≡ [] → CorrectWrite w → Allowed w
+
+-- and where a slot is named, any write to it that is correct but for its number, one above its operator's winners.
+abbrev pub AnyHealAllowed : Type 0
+AnyHealAllowed = (w : Write) → named (store w) ≡ Some (length w.before, w.index) → CorrectWith (healing_number (store w) w.pair) w → Allowed w
+
+-- Each may be finished, or cut: after no byte, after 8 or more, or with any of its sectors.
+pub record GoesOn (before : List Tracked) (t : Tracked) (behind : List Tracked) (q : Put) (allowed : Allowed (write_to before t behind q)) : Type 0 where
+  pub finished_write : Reached HistoryAccident (before ++ finished (write_to before t behind q) t ∷ behind)
+  pub torn_write : (HistoryAccident (write_to before t behind q) (past q.index t) allowed.correct.winner → ⊥)
+      → (k : ℕ) → q.tear ≡ Ascending k → (k ≡ 0) ⊎ ((8 ≤ k) × (k ≤ size (write_to before t behind q)))
+      → Reached HistoryAccident (before ++ torn_by (write_to before t behind q) t ∷ behind)
+  pub torn_sectors : (HistoryAccident (write_to before t behind q) (past q.index t) allowed.correct.winner → ⊥)
+      → (reached : ℕ → Bool) → q.tear ≡ Sectors reached
+      → Reached HistoryAccident (before ++ torn_by (write_to before t behind q) t ∷ behind)
+
+abbrev pub AnyCutGoesOn : Type 0
+AnyCutGoesOn =
+    (before : List Tracked) (t : Tracked) (behind : List Tracked) (q : Put) → Reached HistoryAccident (before ++ t ∷ behind)
+    → (allowed : Allowed (write_to before t behind q))
+    → GoesOn before t behind q allowed
 
 -- ---- what is known
 
@@ -32,6 +67,53 @@ pub record KnownRecords : Type 0 where
 -- Whatever is read back of a pair of which a known record is read is known.
 abbrev pub ReadIsKnown : Type 0
 ReadIsKnown = (t : Tracked) (v : PairVerdict) (r : List ℕ) → ReadKnown t v → PayloadIs t.pair r → IsAmong t.known r
+
+-- ---- the mark
+
+-- The write does not set the mark: it is of a page, or its record has none.
+abbrev pub SetsNoMark : Write → Type 0
+SetsNoMark w = is_empty w.before ≡ true → clean_mark w.payload ≡ false
+
+-- A history without the mark: it begins with a store whose clean mark is false, and no write sets it.
+pub data Unmarked {Accident : Write → Past → SlotInfo → Type 0} : (ts : List Tracked) → Reached Accident ts → Type 0 where
+  start : {ps : List Pair} {sound : Sound ps} {few : length ps ≤ most_pairs} → store_mark ps ≡ false → Unmarked (map started ps) (Reached.start sound few)
+  finish : {before : List Tracked} {t : Tracked} {behind : List Tracked} {reached : Reached Accident (before ++ t ∷ behind)} {q : Put}
+      {allowed : Allowed (write_to before t behind q)}
+      → Unmarked (before ++ t ∷ behind) reached → SetsNoMark (write_to before t behind q)
+      → Unmarked (before ++ finished (write_to before t behind q) t ∷ behind) (Reached.finish before t behind reached q allowed)
+  cut : {before : List Tracked} {t : Tracked} {behind : List Tracked} {reached : Reached Accident (before ++ t ∷ behind)} {q : Put}
+      {allowed : Allowed (write_to before t behind q)} {possible : Possible q.tear (size (write_to before t behind q))}
+      {none : Accident (write_to before t behind q) (past q.index t) allowed.correct.winner → ⊥}
+      → Unmarked (before ++ t ∷ behind) reached → SetsNoMark (write_to before t behind q)
+      → Unmarked (before ++ torn_by (write_to before t behind q) t ∷ behind) (Reached.cut before t behind reached q allowed possible none)
+
+-- In it the mark that is read is always false,
+abbrev pub UnmarkedRead : Type 0
+UnmarkedRead = (ts : List Tracked) (reached : Reached HarmfulAccident ts) → Unmarked ts reached → read_mark (pairs ts) ≡ false
+
+-- so the slot by which the next write goes is the one that the judge names, handed false,
+abbrev pub UnmarkedNamed : Type 0
+UnmarkedNamed =
+    (ts : List Tracked) (reached : Reached HarmfulAccident ts) → Unmarked ts reached → named (pairs ts) ≡ (judgement (shown (pairs ts)) false).heal
+
+-- and everything is promised under that mark.
+abbrev pub TheoremWithoutMark : Type 0
+TheoremWithoutMark =
+    (ts : List Tracked) (reached : Reached HistoryAccident ts) → Unmarked ts reached → (out : List ℕ) → length out ≡ length ts * verdict_width
+    → Promised false ts out
+
+-- The mark that is read is that of pair 0's last written record at the start.
+abbrev pub StartMark : Type 0
+StartMark = (ps : List Pair) → Sound ps → read_mark (pairs (map started ps)) ≡ store_mark ps
+
+-- After a write of pair 0 that is finished, the mark that is read is its record's, and the judge answers it as clean: closed or opened.
+pub record MarkWritten (t : Tracked) (behind : List Tracked) (q : Put) : Type 0 where
+  pub read : read_mark (pairs (finished (write_to [] t behind q) t ∷ behind)) ≡ clean_mark q.payload
+  pub answered : (judgement (shown (pairs (finished (write_to [] t behind q) t ∷ behind))) (clean_mark q.payload)).clean ≡ clean_mark q.payload
+
+abbrev pub FinishedMark : Type 0
+FinishedMark =
+    (t : Tracked) (behind : List Tracked) (q : Put) → Reached HarmfulAccident (t ∷ behind) → Allowed (write_to [] t behind q) → MarkWritten t behind q
 
 -- ---- the accidents
 
@@ -50,7 +132,9 @@ LinkAtMost =
 
 -- The theorem holds where only those that do harm are ruled out,
 abbrev pub HarmfulAlone : Type 0
-HarmfulAlone = (ts : List Tracked) → Reached HarmfulAccident ts → (out : List ℕ) → length out ≡ length ts * verdict_width → Promised ts out
+HarmfulAlone =
+    (ts : List Tracked) → Reached HarmfulAccident ts → (out : List ℕ) → length out ≡ length ts * verdict_width
+    → Promised (read_mark (pairs ts)) ts out
 
 -- which are among those of the theorem.
 abbrev pub HarmfulIsAccident : Type 0
@@ -100,21 +184,22 @@ plan_of w =
 -- `plan_write` gives every free write of a history, and `plan_heal` every write that heals.
 pub record IsPlanned (w : Write) : Type 0 where
   pub free : named (store w) ≡ None → plan_write (frames (store w)) (length w.before) ≡ Ok (Some (plan_of w))
-  pub healing : named (store w) ≡ Some (length w.before, w.index) → plan_heal (frames (store w)) 0 ≡ Ok (Some (length w.before, plan_of w))
+  pub healing : named (store w) ≡ Some (length w.before, w.index)
+      → plan_heal (frames (store w)) (mark (read_mark (store w))) ≡ Ok (Some (length w.before, plan_of w))
 
 abbrev pub AllowedIsPlanned : Type 0
 AllowedIsPlanned =
     (before : List Tracked) (t : Tracked) (behind : List Tracked) (q : Put) → Reached HarmfulAccident (before ++ t ∷ behind)
     → Allowed (write_to before t behind q) → IsPlanned (write_to before t behind q)
 
--- What is planned is a write of a history, with what a planned write is given and a payload that sets no mark.
+-- What is planned is a write of a history, with what a planned write is given; where no slot is named and the mark is set, that of pair 0.
 abbrev pub FreePlanIsAllowed : Type 0
 FreePlanIsAllowed =
     (before : List Tracked) (t : Tracked) (behind : List Tracked) (plan : Plan) (owner compat : ℕ) (payload buffer : List ℕ) (tear : Tear)
     → Reached HarmfulAccident (before ++ t ∷ behind)
     → IsGiven (write_of (pairs before) t.pair (pairs behind) plan owner compat payload buffer tear)
-    → (is_empty (pairs before) ≡ true → clean_mark payload ≡ false)
     → named (pairs (before ++ t ∷ behind)) ≡ None
+    → (read_mark (pairs (before ++ t ∷ behind)) ≡ true → is_empty (pairs before) ≡ true)
     → plan_write (frames (pairs (before ++ t ∷ behind))) (length before) ≡ Ok (Some plan)
     → Allowed (write_of (pairs before) t.pair (pairs behind) plan owner compat payload buffer tear)
 
@@ -123,6 +208,5 @@ HealPlanIsAllowed =
     (before : List Tracked) (t : Tracked) (behind : List Tracked) (plan : Plan) (owner compat : ℕ) (payload buffer : List ℕ) (tear : Tear)
     → Reached HarmfulAccident (before ++ t ∷ behind)
     → IsGiven (write_of (pairs before) t.pair (pairs behind) plan owner compat payload buffer tear)
-    → (is_empty (pairs before) ≡ true → clean_mark payload ≡ false)
-    → plan_heal (frames (pairs (before ++ t ∷ behind))) 0 ≡ Ok (Some (length before, plan))
+    → plan_heal (frames (pairs (before ++ t ∷ behind))) (mark (read_mark (pairs (before ++ t ∷ behind)))) ≡ Ok (Some (length before, plan))
     → Allowed (write_of (pairs before) t.pair (pairs behind) plan owner compat payload buffer tear)

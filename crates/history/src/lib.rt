@@ -3,10 +3,19 @@
 #![tactic(auto)]
 
 ghost use Rattle.history.specs.History.{HistoryTheorem};
-ghost use Rattle.history.specs.Laws.{KnownRecords, ReadIsKnown, LinkAtMost, HarmfulAlone, HarmfulIsAccident, OnlyTheWritten, NumbersAnswered, NumbersOfHistory, AllowedIsPlanned, FreePlanIsAllowed, HealPlanIsAllowed};
+ghost use Rattle.history.specs.Laws.{AnyStoreBegins, AnyWriteAllowed, AnyVolumeWriteAllowed, AnyHealAllowed, AnyCutGoesOn, KnownRecords, ReadIsKnown, UnmarkedRead, UnmarkedNamed, TheoremWithoutMark, StartMark, FinishedMark, LinkAtMost, HarmfulAlone, HarmfulIsAccident, OnlyTheWritten, NumbersAnswered, NumbersOfHistory, AllowedIsPlanned, FreePlanIsAllowed, HealPlanIsAllowed};
 
 pub fn history_theorem()
     ensures { HistoryTheorem }
+{}
+
+// What it asks for, and no more.
+pub fn asked_for()
+    ensures store { AnyStoreBegins }
+    ensures write { AnyWriteAllowed }
+    ensures volume { AnyVolumeWriteAllowed }
+    ensures heal { AnyHealAllowed }
+    ensures cut { AnyCutGoesOn }
 {}
 
 // Which records are known, and that what is read is one of them.
@@ -14,6 +23,21 @@ pub fn history_theorem()
 pub fn known()
     ensures records { KnownRecords }
     ensures read { ReadIsKnown }
+{}
+
+// The mark that is read: at the start, after pair 0 was written, and in a history without it.
+#[tactic(auto, using(crate::proofs::Theorem::unmarked_read, crate::proofs::Theorem::start_mark))]
+pub fn mark()
+    ensures unmarked { UnmarkedRead }
+    ensures named { UnmarkedNamed }
+    ensures start { StartMark }
+    ensures finished { FinishedMark }
+{}
+
+// The theorem where a history has no mark: it begins with a store whose clean mark is false, and no write sets it.
+#[tactic(auto, using(crate::proofs::Theorem::theorem_without_mark))]
+pub fn without_mark()
+    ensures { TheoremWithoutMark }
 {}
 
 // What is no accident.

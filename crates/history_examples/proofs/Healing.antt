@@ -21,7 +21,7 @@ use Rattle.cut.proofs.PairLaws.{last_is}
 use Rattle.cut_examples.specs.Stores.{volume_pair, second_page, long_page, long_store}
 use Rattle.cut_examples.specs.Writes.{long_fields, the_first, both}
 use Rattle.cut_examples.specs.Computed.{torn_header, torn_payload, valid_read}
-use Rattle.cut_examples.proofs.Writes.{both_written, unmarked_with}
+use Rattle.cut_examples.proofs.Writes.{both_written}
 use Rattle.cut_examples.proofs.SlotsRead.{PairRecord, read_once}
 use Rattle.cut_examples.proofs.LongWrites.{newer_record, new_record, record_bytes, accepted, header_sums, new_fits, newer_known, older_slot, new_slot, older_slot_is, new_slot_is, long_sound, long_store_sound, record_fits, newer_read, long_with}
 use Rattle.history.specs.History.{standing, started, Allowed, HistoryAccident, Reached}
@@ -146,7 +146,7 @@ pub reached : HealingReached
 reached = record { first = first; cut = once; cut_again = twice; finished = last }
   where
     first : Reached HistoryAccident (store_with at_first)
-    first = Reached.start {ps = long_store} long_store_sound (lit≤ tt) (unmarked_with long_page)
+    first = Reached.start {ps = long_store} long_store_sound (lit≤ tt)
 
     once : Reached HistoryAccident (store_with torn)
     once =

@@ -1,3 +1,4 @@
 pub mod Steps
 pub mod Healing
 pub mod OlderHeader
+pub mod Closing

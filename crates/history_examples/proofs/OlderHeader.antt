@@ -23,7 +23,7 @@ use Rattle.cut.proofs.CutLaws.{differ}
 use Rattle.cut_examples.specs.Stores.{page_record, zeros_for, volume_pair, first_page, second_page, new_fields, first_store}
 use Rattle.cut_examples.specs.Computed.{torn_header}
 use Rattle.cut_examples.specs.Cuts.{older_read, new_read}
-use Rattle.cut_examples.proofs.Writes.{both_written, first_sound, sound, unmarked_with, newer_known, summed_slot, summed_is, page_bytes, page_fits, page_accepted, new_fits, newer_sums, new_sums, old_page, new_page, old_page_is, new_page_is}
+use Rattle.cut_examples.proofs.Writes.{both_written, first_sound, sound, newer_known, summed_slot, summed_is, page_bytes, page_fits, page_accepted, new_fits, newer_sums, new_sums, old_page, new_page, old_page_is, new_page_is}
 use Rattle.cut_examples.proofs.SlotsRead.{PairRecord, read_once}
 use Rattle.cut_examples.proofs.Computed.{newer_read, slots_read, first_page_read, first_with}
 use Rattle.history.specs.History.{standing, same_header, under_after, valid_after, started, Allowed, HistoryAccident, HarmfulAccident, Reached}
@@ -200,7 +200,7 @@ pub reached : OlderHeaderReached
 reached = record { first = first; cut = once; cut_again = twice; finished = last }
   where
     first : Reached HarmfulAccident (store_with at_first)
-    first = Reached.start {ps = first_store} sound (lit≤ tt) (unmarked_with first_page)
+    first = Reached.start {ps = first_store} sound (lit≤ tt)
 
     once : Reached HarmfulAccident (store_with torn)
     once =

@@ -1,6 +1,6 @@
 -- What a step of a history of the store needs, from how its pair 1 is read: the number of a write, that it is allowed, and that a cut is no
 -- accident.
-use Rattle.std.proofs.Common.{◌≡◌, refl, sym, ap, ap₂, ◌∙◌, ◌⊎◌, inl, inr, true, false, ◌==◌, eq-eqb, List, [], ◌∷◌, ℕ, ◌+◌, ◌^◌, ◌≤◌, length, map, take, replicate, Option, Some, None, Ok}
+use Rattle.std.proofs.Common.{◌≡◌, sym, ap, ap₂, ◌∙◌, ◌⊎◌, inl, inr, Bool, true, false, ◌==◌, eq-eqb, List, [], ◌∷◌, ℕ, ◌+◌, ◌^◌, ◌≤◌, length, map, take, replicate, Option, Some, None, Ok}
 use Rattle.std.proofs.lemmas.Option.{some_pair_parts}
 use Rattle.codec.specs.Bytes.{AllBytes, le32}
 use Rattle.codec.specs.Crc32c.{crc32c}
@@ -23,12 +23,13 @@ use Rattle.cut.specs.Store.{Pair, accepts, slot_at, report, shown}
 use Rattle.cut.specs.Cut.{Tear, Write, new, left, next_number, header_passes}
 use Rattle.cut.proofs.StatusLaws.{false_true}
 use Rattle.plan.specs.Numbers.{highest_winner}
-use Rattle.cut_examples.specs.Stores.{volume_record, page_record, volume_pair, second_page, read_with}
+use Rattle.cut_examples.specs.Stores.{volume_record, page_record, volume_pair, first_page, first_store, second_page, read_with}
 use Rattle.cut_examples.specs.Computed.{writable_store, blank_read}
-use Rattle.cut_examples.proofs.Writes.{write_correct}
+use Rattle.cut_examples.proofs.Writes.{sound, unmarked_with, write_correct}
 use Rattle.cut_examples.proofs.SlotsRead.{PairRecord, more, none, row_framed}
 use Rattle.cut_examples.proofs.Computed.{volume_read, second_read, volume_pair_read, second_page_read, row_with, judged_with}
-use Rattle.history.specs.History.{Past, Tracked, pairs, standing, heal_number, Turn, Allowed, HistoryAccident}
+use Rattle.history.specs.History.{Past, Tracked, pairs, read_mark, standing, heal_number, Turn, Allowed, HistoryAccident}
+use Rattle.history.proofs.Theorem.{start_mark}
 use Rattle.history_examples.specs.States.{store_with, put, page_write, StateIs, NumbersAre}
 
 -- ---- what is written
@@ -58,6 +59,10 @@ module _ (t : Tracked) {x : PairRead} {r : List ℕ} (pair : PairRecord t.pair x
 
   operator_is : t.pair.operator ≡ x.operator
   operator_is = ap (λ (f : Framed). f.pair.operator) pair.read
+
+  -- The volume record has no mark.
+  unset : read_mark (pairs (store_with t)) ≡ false
+  unset = start_mark first_store sound ∙ unmarked_with first_page
 
   -- The numbers, from what the judge is shown.
   next_shown : next_number (pairs (store_with t)) t.pair ≡ highest (numbers x.operator (shown_row x)) + 1
@@ -94,7 +99,6 @@ module _ (t : Tracked) {x : PairRead} {r : List ℕ} (pair : PairRecord t.pair x
           correct =
               write_correct (volume_pair ∷ []) t.pair (second_page ∷ []) f fitting.fits fitting.format fitting.asked number i
               (ap winner_info report_is ∙ won) generation prev payload fitting.bytes fitting.accepted fitting.room tear;
-          unmarked = λ empty. false_true refl empty;
         }
 
     -- It is its turn where no slot is named,
@@ -103,7 +107,7 @@ module _ (t : Tracked) {x : PairRead} {r : List ℕ} (pair : PairRecord t.pair x
         → f.prev_header_crc32c ≡ i.header_crc32c
         → Allowed w
     free heal number =
-        allowed_by (Turn.free (ap (λ (ps : List ShownPair). (judgement ps false).heal) shown_is ∙ heal))
+        allowed_by (Turn.free (ap₂ (λ (ps : List ShownPair) (m : Bool). (judgement ps m).heal) shown_is unset ∙ heal) (λ set. false_true unset set))
         (number ∙ sym next_shown)
 
     -- and where its own is.
@@ -113,7 +117,7 @@ module _ (t : Tracked) {x : PairRead} {r : List ℕ} (pair : PairRecord t.pair x
         → f.prev_header_crc32c ≡ i.header_crc32c
         → Allowed w
     healing heal number =
-        allowed_by (Turn.healing (ap (λ (ps : List ShownPair). (judgement ps false).heal) shown_is ∙ heal))
+        allowed_by (Turn.healing (ap₂ (λ (ps : List ShownPair) (m : Bool). (judgement ps m).heal) shown_is unset ∙ heal))
         (number ∙ sym heal_shown)
 
     -- The winner that it is made beside is that of the pair.

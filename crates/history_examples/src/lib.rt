@@ -5,6 +5,7 @@
 #![tactic(auto)]
 
 ghost use Rattle.history_examples.specs.Healing.{HealingReached, HealingStates, HealingNumbers};
+ghost use Rattle.history_examples.specs.Closing.{Closing};
 ghost use Rattle.history_examples.specs.OlderHeader.{OlderHeaderReached, SlotAsAtFirst, StandsByAccident, StandsWithoutHarm, OlderHeaderStates, OlderHeaderNumbers};
 
 // A write is cut in its header, the one that heals after its first sector, and written again it is finished.
@@ -13,6 +14,12 @@ pub fn healing_cut()
     ensures reached { HealingReached }
     ensures states { HealingStates }
     ensures numbers { HealingNumbers }
+{}
+
+// The store is closed.
+#[tactic(auto, using(crate::proofs::Closing::closing))]
+pub fn closed()
+    ensures { Closing }
 {}
 
 // A write is cut after nine bytes and the one that heals too, which leaves the slot as it was before both; the next write is finished.
