@@ -7,7 +7,7 @@ use Rattle.codec.specs.Bytes.{AllBytes, le16, le32}
 use Rattle.slot.specs.Header.{magic}
 use Rattle.slot.specs.Read.{header_sum}
 use Rattle.slot.proofs.Tests.{both}
-use Rattle.cut.specs.Cut.{Tear, Ascending, Sectors, cut, torn, CutPoint, Possible, stands_whole, header_passes, payload_in, Accident, SectorAccident, AccidentBy}
+use Rattle.cut.specs.Cut.{Tear, Ascending, Sectors, cut, torn, CutPoint, Possible, Anywhere, stands_whole, header_passes, payload_in, Accident, SectorAccident, AccidentBy}
 use Rattle.cut.specs.Laws.{FailedSum, FailedPayload, OlderAtMost}
 use Rattle.cut.proofs.StatusLaws.{false_true}
 use Rattle.cut.proofs.SectorLaws.{sector_byte, length_sectors, within_sector}
@@ -56,17 +56,18 @@ cut_byte (suc k) j (x ∷ new) [] sizes = absurd (omega arith)
 cut_byte (suc k) zero (x ∷ new) (y ∷ old) sizes = inr refl
 cut_byte (suc k) (suc j) (x ∷ new) (y ∷ old) sizes = cut_byte k j new old (omega arith)
 
+point_within : (k size : ℕ) → CutPoint k size → k ≤ size
+point_within k size (inl none) = omega arith
+point_within k size (inr some) = some.1
+
+-- A cut that is possible is one anywhere.
+pub anywhere : (size : ℕ) (tear : Tear) → Possible tear size → Anywhere tear size
+anywhere size (Ascending k) point = point_within k size point
+anywhere size (Sectors reached) any = any
+
 module _ (k : ℕ) (new old : List ℕ) (sizes : length old ≡ length new) (point : CutPoint k (length new)) where
   within : k ≤ length new
-  within = go point
-    where
-      go : CutPoint k (length new) → k ≤ length new
-      go (inl none) = omega arith
-      go (inr some) = some.1
-
-  length_cut : length (cut k new old) ≡ length new
-  unfolding cut
-  length_cut = simp (length-append, length-take, length-drop) (omega (arith, within))
+  within = point_within k (length new) point
 
   -- No byte arrived, or the magic did.
   old_or_magic : take 8 new ≡ magic → (cut k new old ≡ old) ⊎ (take 8 (cut k new old) ≡ magic)
@@ -156,9 +157,10 @@ module _ (new old : List ℕ) (sizes : length old ≡ length new) where
       go (inl is) = let small = old_all j in omega arith
       go (inr is) = let small = new_all j in omega arith
 
-  pub length_torn : (tear : Tear) → Possible tear (length new) → length (torn tear new old) ≡ length new
-  length_torn (Ascending k) possible = length_cut k new old sizes possible
-  length_torn (Sectors reached) possible = length_sectors reached _ new old sizes
+  pub length_torn : (tear : Tear) → Anywhere tear (length new) → length (torn tear new old) ≡ length new
+  unfolding cut
+  length_torn (Ascending k) within = simp (length-append, length-take, length-drop) (omega (arith, within))
+  length_torn (Sectors reached) within = length_sectors reached _ new old sizes
 
   pub torn_header : (tear : Tear) → Possible tear (length new) → take 8 new ≡ magic → Header (torn tear new old) old new
   torn_header (Ascending k) possible stands = header_of (cut k new old) old new (old_or_magic k new old sizes possible stands)

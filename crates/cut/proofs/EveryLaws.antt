@@ -1,4 +1,4 @@
--- A list taken apart at one of its elements: a property of every element, and another element in its place.
+-- A list taken apart at one of its elements: a property of every element, another element in its place, and a property that follows.
 use Rattle.std.proofs.Common.{◌≡◌, sym, ◌∙◌, List, [], ◌∷◌, ◌++◌, length, length-append}
 use Rattle.cut.specs.Store.{Every}
 
@@ -11,6 +11,10 @@ pub every_join : {T : Type 0} {P : T → Type 0} {before : List T} {t : T} {behi
     → Every P (before ++ t ∷ behind)
 every_join Every.none here rest = Every.more here rest
 every_join (Every.more first all) here rest = Every.more first (every_join all here rest)
+
+pub every_map : {T : Type 0} {P Q : T → Type 0} {xs : List T} → ((x : T) → P x → Q x) → Every P xs → Every Q xs
+every_map f Every.none = Every.none
+every_map f (Every.more {x} here rest) = Every.more (f x here) (every_map f rest)
 
 pub same_length : {T : Type 0} (before : List T) (t u : T) (behind : List T) → length (before ++ t ∷ behind) ≡ length (before ++ u ∷ behind)
 same_length before t u behind = length-append before (t ∷ behind) ∙ sym (length-append before (u ∷ behind))

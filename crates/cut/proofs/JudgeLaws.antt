@@ -1,6 +1,6 @@
 -- The judge over a row in which every pair but one is settled, and that one's winner stands beside a slot that a crash explains: the
 -- second pass changes nothing, the store is writable, and only that slot can be healed.
-use Rattle.std.proofs.Common.{◌≡◌, refl, ap, ap₂, ◌∙◌, Bool, true, false, cond, List, [], ◌∷◌, ◌++◌, ℕ, ◌+◌, arith, length, Option, Some, None}
+use Rattle.std.proofs.Common.{◌≡◌, refl, ap, ap₂, ◌∙◌, Bool, true, false, cond, ◌||◌, List, [], ◌∷◌, ◌++◌, ℕ, ◌+◌, arith, length, Option, Some, None}
 use Rattle.slot.specs.Status.{other}
 use Rattle.slot.specs.declared.slot.SlotIndex.{SlotIndex}
 use Rattle.judge.specs.Verdict.{standing_beside, winner_beside, is_in_flight, in_flight}
@@ -11,6 +11,7 @@ use Rattle.judge.specs.declared.verdict.Standing.{Standing}
 use Rattle.judge.specs.declared.verdict.PairVerdict.{PairVerdict}
 use Rattle.judge.proofs.PassLaws.{or-last}
 use Rattle.cut.specs.Store.{Every}
+use Rattle.cut.proofs.StatusLaws.{false_true}
 
 -- The verdict of a slot that is left as it is.
 pub data Quiet : SlotVerdict → Type 0 where
@@ -41,6 +42,33 @@ explained_flight SlotIndex.B nothing = refl
 explained_flight SlotIndex.B older = refl
 explained_flight SlotIndex.B torn = refl
 
+-- ---- pairs without a write in flight
+
+abbrev pub Idle : PairVerdict → Type 0
+Idle v = in_flight v ≡ false
+
+idle_none : (v : PairVerdict) → in_flight v ≡ false → (i : ℕ) → pair_heal i v ≡ None
+idle_none v idle i = go (is_in_flight v.a) (is_in_flight v.b) idle
+  where
+    go : (a b : Bool) → (a || b) ≡ false → cond {A = Option (ℕ × SlotIndex)} b (Some (i, SlotIndex.B)) (cond {A = Option (ℕ × SlotIndex)} a (Some (i, SlotIndex.A)) None) ≡ None
+    go false false is = refl
+    go true b is = false_true is refl
+    go false true is = false_true is refl
+
+pub idle_heal : {vs : List PairVerdict} → Every Idle vs → (i : ℕ) → heal i vs ≡ None
+idle_heal Every.none i = refl
+idle_heal (Every.more {x = v} idle rest) i = simp (idle_heal rest (i + 1), idle_none v idle i)
+
+-- Nothing in flight: the verdict stays.
+pub demoted_none : (demote : Bool) (v : PairVerdict) → in_flight v ≡ false → demoted demote v ≡ v
+demoted_none true v idle = simp idle
+demoted_none false v idle = refl
+
+idle_last : {vs : List PairVerdict} → Every Idle vs → (volume page : Bool) → last_verdicts volume page vs ≡ vs
+idle_last Every.none volume page = refl
+idle_last (Every.more {x = v} idle rest) volume page =
+    ap₂ (λ (x : PairVerdict) (xs : List PairVerdict). x ∷ xs) (demoted_none volume v idle) (idle_last rest page page)
+
 -- ---- settled pairs
 
 pub quiet_explained : {v : SlotVerdict} → Quiet v → Explained v
@@ -56,11 +84,12 @@ settled_flight SlotIndex.A damaged = refl
 settled_flight SlotIndex.B intact = refl
 settled_flight SlotIndex.B damaged = refl
 
+settled_idle : {vs : List PairVerdict} → Settled vs → Every Idle vs
+settled_idle none = Every.none
+settled_idle (more index quiet rest) = Every.more (settled_flight index quiet) (settled_idle rest)
+
 pub settled_none : (index : SlotIndex) {v : SlotVerdict} → Quiet v → (i : ℕ) → pair_heal i (winner_beside index v) ≡ None
-settled_none SlotIndex.A intact i = refl
-settled_none SlotIndex.A damaged i = refl
-settled_none SlotIndex.B intact i = refl
-settled_none SlotIndex.B damaged i = refl
+settled_none index {v} quiet i = idle_none (winner_beside index v) (settled_flight index quiet) i
 
 settled_candidates : {vs : List PairVerdict} → Settled vs → candidates vs ≡ 0
 settled_candidates none = refl
@@ -74,27 +103,12 @@ settled_refused : {vs : List PairVerdict} → Settled vs → any_refused vs ≡ 
 settled_refused none = refl
 settled_refused (more index quiet rest) = simp (settled_standing quiet) (settled_refused rest)
 
-settled_heal : {vs : List PairVerdict} → Settled vs → (i : ℕ) → heal i vs ≡ None
-settled_heal none i = refl
-settled_heal (more index quiet rest) i = simp (settled_heal rest (i + 1), settled_none index quiet i)
-
--- Nothing in flight, or no reason to demote: the verdict stays.
-demoted_none : (demote : Bool) (v : PairVerdict) → in_flight v ≡ false → demoted demote v ≡ v
-demoted_none true v idle = simp idle
-demoted_none false v idle = refl
-
 demoted_kept : (v : PairVerdict) → demoted false v ≡ v
 demoted_kept v = refl
 
 last_kept : (vs : List PairVerdict) → last_verdicts false false vs ≡ vs
 last_kept [] = refl
 last_kept (v ∷ vs) = ap₂ (λ (x : PairVerdict) (xs : List PairVerdict). x ∷ xs) (demoted_kept v) (last_kept vs)
-
-settled_last : {vs : List PairVerdict} → Settled vs → (volume page : Bool) → last_verdicts volume page vs ≡ vs
-settled_last none volume page = refl
-settled_last (more {v} index quiet rest) volume page =
-    ap₂ (λ (x : PairVerdict) (xs : List PairVerdict). x ∷ xs) (demoted_none volume (winner_beside index v) (settled_flight index quiet))
-    (settled_last rest page page)
 
 -- ---- one pair among settled ones
 
@@ -112,14 +126,14 @@ module _ (v : PairVerdict) (behind : List PairVerdict) (settled_behind : Settled
   row_refused confirmed (more index quiet rest) = simp (settled_standing quiet) (row_refused confirmed rest)
 
   row_heal_at : {before : List PairVerdict} → Settled before → (i : ℕ) → heal i (before ++ v ∷ behind) ≡ pair_heal (i + length before) v
-  row_heal_at none i = rw (settled_heal settled_behind (i + 1)) (ap (λ (k : ℕ). pair_heal k v) (omega arith))
+  row_heal_at none i = rw (idle_heal (settled_idle settled_behind) (i + 1)) (ap (λ (k : ℕ). pair_heal k v) (omega arith))
   row_heal_at (more index quiet rest) i =
       rw (settled_none index quiet i) (or-last _ ∙ row_heal_at rest (i + 1) ∙ ap (λ (k : ℕ). pair_heal k v) (omega arith))
 
   row_none_in_flight : in_flight v ≡ false → {before : List PairVerdict} → Settled before → (volume page : Bool)
       → last_verdicts volume page (before ++ v ∷ behind) ≡ before ++ v ∷ behind
   row_none_in_flight idle none volume page =
-      ap₂ (λ (x : PairVerdict) (xs : List PairVerdict). x ∷ xs) (demoted_none volume v idle) (settled_last settled_behind page page)
+      ap₂ (λ (x : PairVerdict) (xs : List PairVerdict). x ∷ xs) (demoted_none volume v idle) (idle_last (settled_idle settled_behind) page page)
   row_none_in_flight idle (more {v = u} index quiet rest) volume page =
       ap₂ (λ (x : PairVerdict) (xs : List PairVerdict). x ∷ xs) (demoted_none volume (winner_beside index u) (settled_flight index quiet))
       (row_none_in_flight idle rest page page)

@@ -13,7 +13,7 @@ use Rattle.slot.proofs.Tests.{both}
 use Rattle.cut.specs.Store.{Pair, slot_at}
 use Rattle.cut.specs.Cut.{Write, size, old, new, left, with_slot, Possible, whole, header_passes, payload_in, payload_by}
 use Rattle.cut.proofs.StatusLaws.{passed_is}
-use Rattle.cut.proofs.CutLaws.{torn_byte, torn_bytes, length_torn, Header, torn_header}
+use Rattle.cut.proofs.CutLaws.{torn_byte, torn_bytes, anywhere, length_torn, Header, torn_header}
 use Rattle.cut.proofs.StateLaws.{Short, beside, asked, Leads, Resting, Flying, under_check}
 use Rattle.cut.proofs.NextLaws.{length_bytes, length_short, Next, wins, next_resting, next_flying}
 use Rattle.cut.proofs.WrittenLaws.{Writes, new_size, new_bytes, new_magic, new_header, new_payload, sizes_same}
@@ -89,7 +89,7 @@ module _ {n : ℕ} (w : Write) (made : BesideWinner n w) (below : made.correct.w
   possible_new = rw (new_size w wrote) possible
 
   pub left_size : length (left w) ≡ length (beside (other w.index) w.pair)
-  left_size = length_torn (new w) (old w) sizes w.tear possible_new ∙ new_beside w made
+  left_size = length_torn (new w) (old w) sizes w.tear (anywhere _ w.tear possible_new) ∙ new_beside w made
 
   pub left_bytes : AllBytes (left w)
   left_bytes = torn_bytes (new w) (old w) sizes w.tear (new_bytes w (writes w made)) (made.leads.slots w.index).typed.bytes

@@ -109,6 +109,11 @@ abbrev pub Possible : Tear → ℕ → Type 0
 Possible (Ascending k) size = CutPoint k size
 Possible (Sectors reached) size = Unit {0}
 
+-- It may be cut anywhere: after any number of its bytes, or with any set of its sectors.
+abbrev pub Anywhere : Tear → ℕ → Type 0
+Anywhere (Ascending k) size = k ≤ size
+Anywhere (Sectors reached) size = Unit {0}
+
 -- The number of a write to a pair of the store: one above the highest of all numbered slots of its operator.
 abbrev pub next_number : List Pair → Pair → ℕ
 next_number ps p = highest (numbers p.operator (shown ps)) + 1

@@ -16,7 +16,7 @@ use Rattle.meta.specs.Volume.{decode_volume}
 use Rattle.meta.specs.Page.{decode_page}
 use Rattle.meta.specs.declared.meta.MetaError.{MetaError}
 use Rattle.cut.specs.Store.{Volume, Page, accepts, clean_mark, Pair, slot_at, status, shown, frames, store_mark, SoundPair, Sound}
-use Rattle.cut.specs.Cut.{Ascending, Sectors, Write, store, size, old, new, torn, left, CutPoint, Possible, CorrectWrite, whole, header_passes, payload_in, Accident, payload_by, SectorAccident, handed, VolumeFirst, PayloadIs, Survives}
+use Rattle.cut.specs.Cut.{Ascending, Sectors, Write, store, size, old, new, torn, left, CutPoint, Possible, Anywhere, CorrectWrite, whole, header_passes, payload_in, Accident, payload_by, SectorAccident, handed, VolumeFirst, PayloadIs, Survives}
 
 -- ---- the decoders
 
@@ -55,6 +55,16 @@ EachSector =
 -- and any set of them may have reached the slot.
 abbrev pub AnySectors : Type 0
 AnySectors = (reached : ℕ → Bool) (size : ℕ) → Possible (Sectors reached) size
+
+-- ---- the cut anywhere
+
+-- After any number of the slot's bytes,
+abbrev pub AnywhereInOrder : Type 0
+AnywhereInOrder = (k size : ℕ) → k ≤ size → Anywhere (Ascending k) size
+
+-- or by sectors.
+abbrev pub AnywhereBySectors : Type 0
+AnywhereBySectors = (reached : ℕ → Bool) (size : ℕ) → Anywhere (Sectors reached) size
 
 -- ---- the mark
 

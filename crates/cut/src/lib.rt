@@ -7,7 +7,7 @@ ghost use Rattle.pair.specs.Winner.{read_pair};
 ghost use Rattle.judge.specs.Same.{NothingGiven, ChecksumGiven, NumbersGiven};
 ghost use Rattle.cut.specs.Store.{Pair};
 ghost use Rattle.cut.specs.Cut.{CutTheorem, PayloadIs};
-ghost use Rattle.cut.specs.Laws.{VolumeRefused, PageRefused, SoundUnderAny, Encoded, EachSector, AnySectors, UnmarkedRecord, UnmarkedStore, UnmarkedAsked, VolumeAsked, PageHanded, TornHanded, WholeHanded, FailedSum, FailedPayload, OlderAtMost, OlderSurvived, OldHeaderKept, NoneInOrder, PairFrame, OnePayload, HasSlots};
+ghost use Rattle.cut.specs.Laws.{VolumeRefused, PageRefused, SoundUnderAny, Encoded, EachSector, AnySectors, AnywhereInOrder, AnywhereBySectors, UnmarkedRecord, UnmarkedStore, UnmarkedAsked, VolumeAsked, PageHanded, TornHanded, WholeHanded, FailedSum, FailedPayload, OlderAtMost, OlderSurvived, OldHeaderKept, NoneInOrder, PairFrame, OnePayload, HasSlots};
 
 use pair::pair::PairReport;
 use slot::slot::Expect;
@@ -38,6 +38,12 @@ pub fn correct_write()
 pub fn cut_by_sectors()
     ensures each { EachSector }
     ensures any { AnySectors }
+{}
+
+// Where a write may be cut that is cut anywhere.
+pub fn cut_anywhere()
+    ensures ascending { AnywhereInOrder }
+    ensures sectors { AnywhereBySectors }
 {}
 
 // When a record and a store have no clean mark.

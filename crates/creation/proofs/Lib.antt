@@ -1,0 +1,4 @@
+pub mod PairLaws
+pub mod RowLaws
+pub mod Theorem
+pub mod PlanLaws
