@@ -21,11 +21,11 @@ use Rattle.cut.specs.Store.{Every, Page, accepts, SoundPair, Sound}
 use Rattle.cut.specs.Cut.{Sectors, with_slot, by_sector, torn, CorrectWrite, stands_whole, whole}
 use Rattle.cut.proofs.ByteLaws.{bytes_tested}
 use Rattle.cut.proofs.StateLaws.{sound_won}
-use Rattle.cut_examples.specs.Stores.{long_record, zeros_for, volume_pair, second_page, long_older_fields, long_newer_fields, long_page, long_store}
-use Rattle.cut_examples.specs.Writes.{IsMet, StoresSound, long_fields, long_write, neither, the_first, the_second, both, LongMet, LongWhole}
+use Rattle.cut_examples.specs.Stores.{long_record, zeros_for, volume_pair, first_page, second_page, later_page, long_older_fields, long_newer_fields, long_page, long_store}
+use Rattle.cut_examples.specs.Writes.{IsMet, StoresSound, StoresMarked, long_fields, long_write, neither, the_first, the_second, both, LongMet, LongWhole}
 use Rattle.cut_examples.specs.Computed.{torn_payload, valid_read}
 use Rattle.cut_examples.specs.Cuts.{SectorCuts}
-use Rattle.cut_examples.proofs.Writes.{Known, fields_fit, written_known, both_written, sound, later_store_sound, sound_with, unmarked_with, highest_with, tear_tests, met_by, write_correct, one_above, summed_slot, summed_is}
+use Rattle.cut_examples.proofs.Writes.{Known, fields_fit, written_known, both_written, sound, closed_store_sound, closed_marked, later_store_sound, sound_with, unmarked_with, unmarked_first, highest_with, tear_tests, met_by, write_correct, one_above, summed_slot, summed_is}
 use Rattle.cut_examples.proofs.SlotsRead.{PairRecord, read_once, read_once_is, pair_record}
 use Rattle.cut_examples.proofs.Computed.{Written, page_at}
 
@@ -107,7 +107,10 @@ pub long_store_sound : Sound long_store
 long_store_sound = sound_with long_page refl refl long_sound
 
 pub stores_sound : StoresSound
-stores_sound = (sound, later_store_sound, long_store_sound)
+stores_sound = (sound, closed_store_sound, later_store_sound, long_store_sound)
+
+pub stores_marked : StoresMarked
+stores_marked = (unmarked_with first_page, closed_marked, unmarked_with later_page, unmarked_with long_page)
 
 pub record_fits : 128 + length new_record ≤ 1024
 unfolding page_bytes page_header_bytes entry_bytes
@@ -126,7 +129,8 @@ long_correct reached =
 
 long_met : (reached : ℕ → Bool) → tear_tests 1024 (Sectors reached) new_slot older_slot new_record ≡ true → IsMet (long_write reached)
 long_met reached =
-    met_by (long_write reached) long_store_sound (lit≤ tt) (unmarked_with long_page) (long_correct reached) older_slot new_slot older_slot_is new_slot_is
+    met_by (long_write reached) long_store_sound (lit≤ tt) (unmarked_first (long_write reached) (unmarked_with long_page)) (long_correct reached)
+    older_slot new_slot older_slot_is new_slot_is
 
 pub long_cuts : LongMet
 unfolding by_sector payload_of header_sum header_bytes page_bytes page_header_bytes entry_bytes le crc32c final_remainder remainder digest reversed

@@ -1,5 +1,5 @@
 -- What specs/Writes.antt says of the stores and the writes. The slots are what `encode` writes; the checksums are computed.
-use Rattle.std.proofs.Common.{◌≡◌, refl, sym, ap, subst, ◌∙◌, inl, inr, Bool, true, false, cond, not, nat_eq, ◌==◌, List, [], ◌∷◌, ◌++◌, ℕ, ◌+◌, ◌-◌, ◌^◌, ◌≤◌, ◌<◌, max, arith, leb-true, eqb-true, eq-eqb, leb, eqb, lit≤, lit<, length, get_or, take, replicate, Some, Result, Ok}
+use Rattle.std.proofs.Common.{◌≡◌, refl, sym, ap, subst, ◌∙◌, inl, inr, Bool, true, false, cond, not, nat_eq, ◌==◌, List, [], ◌∷◌, ◌++◌, ℕ, ◌+◌, ◌-◌, ◌^◌, ◌≤◌, ◌<◌, max, arith, leb-true, eqb-true, eq-eqb, leb, eqb, lit≤, lit<, length, take, replicate, Some, Result, Ok}
 use Rattle.std.proofs.Math.ListN.{length-replicate}
 use borrow.Author.Tests.{not-true}
 use lib.Pointwise.{pointwise, bytes_decides}
@@ -25,16 +25,16 @@ use Rattle.meta.specs.Block.{block_size, entries_per_page}
 use Rattle.meta.specs.Base.{base_at, check_base}
 use Rattle.meta.specs.Volume.{tail_at, check_tail, check_volume, decode_volume, volume_bytes as volume_record_bytes}
 use Rattle.meta.specs.Page.{header_at, decode_page, entries, header_row as page_header_row, header_bytes as page_header_bytes}
-use Rattle.cut.specs.Store.{Every, Decoder, Volume, Page, accepts, clean_mark, Pair, slot_at, status, report, shown, store_mark, Typed, SoundSlot, Beside, SoundPair, IsRow, Sound}
-use Rattle.cut.specs.Cut.{Tear, Ascending, Sectors, Write, store, size, old, new, cut, torn, CutPoint, Possible, CorrectWith, CorrectWrite, stands_whole, whole, payload_in, Accident, payload_by, SectorAccident, AccidentBy, handed}
-use Rattle.cut_examples.specs.Stores.{volume_record, page_record, rest, fields, read_with, zeros_for, written_slot, blank_slot, volume_fields, volume_pair, older_fields, newer_fields, first_page, second_fields, second_page, new_fields, later_page, first_store, later_store}
-use Rattle.cut_examples.specs.Writes.{IsMet, MetIsEnough, write_to, page_write, marked_fields, volume_write, next_fields, second_write, later_fields, later_write, PageMet, VolumeMet, SecondMet, LaterMet, StandsWhole, MarkHanded}
+use Rattle.cut.specs.Store.{Every, Decoder, Volume, Page, accepts, clean_mark, Pair, slot_at, status, report, shown, last_record, store_mark, Typed, SoundSlot, Beside, SoundPair, IsRow, Sound}
+use Rattle.cut.specs.Cut.{Tear, Ascending, Sectors, Write, store, size, old, new, cut, torn, CutPoint, Possible, CorrectWith, CorrectWrite, stands_whole, whole, payload_in, Accident, payload_by, SectorAccident, AccidentBy, handed, VolumeFirst}
+use Rattle.cut_examples.specs.Stores.{volume_by, volume_record, reopened_record, page_record, rest, fields, read_with, zeros_for, written_slot, blank_slot, volume_fields, volume_pair, marked_fields, closed_volume, older_fields, newer_fields, first_page, second_fields, second_page, new_fields, later_page, first_store, closed_store, later_store}
+use Rattle.cut_examples.specs.Writes.{IsMet, MetIsEnough, write_to, page_write, volume_write, opening_fields, opening_write, next_fields, second_write, later_fields, later_write, PageMet, VolumeMet, OpeningMet, SecondMet, LaterMet, StandsWhole, MarkHanded, OldMarkHanded}
 use Rattle.cut.proofs.ByteLaws.{bytes_tested, row_bytes, slot_all_bytes}
 use Rattle.cut.proofs.StatusLaws.{false_true}
-use Rattle.cut.proofs.PairLaws.{valid_number, blank_number}
+use Rattle.cut.proofs.PairLaws.{valid_number, blank_number, last_is}
 use Rattle.cut.proofs.StateLaws.{sound_won}
 use Rattle.cut.proofs.CutLaws.{differ, failed_sum, failed_payload, older_at_most}
-use Rattle.cut.proofs.StatementLaws.{unmarked_store, torn_handed, whole_handed}
+use Rattle.cut.proofs.StatementLaws.{unmarked_asked, torn_handed, whole_handed}
 use Rattle.cut.proofs.Theorem.{cut_theorem}
 
 -- ---- slots as they are written
@@ -102,30 +102,48 @@ module _ (log2 object : ℕ) (index : SlotIndex) (generation prev number : ℕ) 
             accepted = ap (accepts decoder) back.payload_same ∙ takes;
           }
 
-blank_sound : (object : ℕ) (index : SlotIndex) → Fits (fields 9 object index 0 0 0) → SoundSlot (blank_slot object index)
-blank_sound object index fits =
+blank_fits : (object : ℕ) (index : SlotIndex) → object ≤ 2 → Fits (fields 9 object index 0 0 0)
+blank_fits object SlotIndex.A small = fields_fit 9 object SlotIndex.A 0 0 0 (lit< tt) (omega arith) (lit< tt) (omega arith) (lit< tt) (lit< tt)
+blank_fits object SlotIndex.B small = fields_fit 9 object SlotIndex.B 0 0 0 (lit< tt) (omega arith) (lit< tt) (omega arith) (lit< tt) (lit< tt)
+
+pub blank_sound : (object : ℕ) (index : SlotIndex) → object ≤ 2 → SoundSlot (blank_slot object index)
+blank_sound object index small =
     record {
       typed =
-          typed_with 9 object index 0 0 0 fits (replicate 128 0 ++ replicate 384 9)
+          typed_with 9 object index 0 0 0 (blank_fits object index small) (replicate 128 0 ++ replicate 384 9)
           (append-bytes (replicate 128 0) (replicate 384 9) (zero-bytes 128) (bytes_tested (replicate 384 9) refl));
       format = refl;
       numbered = refl;
     }
 
-blank_status : (object : ℕ) (index : SlotIndex) → status (blank_slot object index) ≡ SlotStatus.Blank
+pub blank_status : (object : ℕ) (index : SlotIndex) → status (blank_slot object index) ≡ SlotStatus.Blank
 unfolding validate is_slot_length
 blank_status object index = refl
 
 -- ---- records
 
-volume_bytes : AllBytes (volume_record false) × AllBytes (volume_record true)
+pub volume_bytes : AllBytes (volume_record false) × AllBytes (volume_record true) × AllBytes (reopened_record false) × AllBytes (reopened_record true)
 unfolding volume_record_bytes
-volume_bytes = (bytes_tested (volume_record false) refl, bytes_tested (volume_record true) refl)
+volume_bytes = (
+  bytes_tested (volume_record false) refl,
+  bytes_tested (volume_record true) refl,
+  bytes_tested (reopened_record false) refl,
+  bytes_tested (reopened_record true) refl,
+)
 
 pub volume_accepted : (accepts Volume (volume_record false) ≡ true) × (accepts Volume (volume_record true) ≡ true)
-    × (clean_mark (volume_record true) ≡ true)
+    × (accepts Volume (reopened_record false) ≡ true) × (accepts Volume (reopened_record true) ≡ true)
 unfolding volume_record_bytes decode_volume base_at tail_at check_volume check_base check_tail entries_per_page block_size le
-volume_accepted = (refl, refl, refl)
+volume_accepted = (refl, refl, refl, refl)
+
+pub clean_marks : (clean_mark (volume_record false) ≡ false) × (clean_mark (volume_record true) ≡ true)
+    × (clean_mark (reopened_record false) ≡ false) × (clean_mark (reopened_record true) ≡ true)
+unfolding volume_record_bytes decode_volume base_at tail_at check_volume check_base check_tail entries_per_page block_size le
+clean_marks = (refl, refl, refl, refl)
+
+pub volume_room : (owner : ℕ) (mark : Bool) → 128 + length (volume_by owner mark) ≤ 512
+unfolding volume_record_bytes
+volume_room owner mark = lit≤ tt
 
 pub page_bytes : (index next : ℕ) → AllBytes (page_record index next)
 unfolding page_header_bytes
@@ -175,9 +193,6 @@ newer_fits = fields_fit 9 1 SlotIndex.B 2 0x588e_9174 4 (lit< tt) (lit< tt) (lit
 second_fits : Fits second_fields
 second_fits = fields_fit 9 2 SlotIndex.A 1 0 3 (lit< tt) (lit< tt) (lit< tt) (lit< tt) (lit< tt) (lit< tt)
 
-blank_fits : (object : ℕ) → object ≤ 2 → Fits (fields 9 object SlotIndex.B 0 0 0)
-blank_fits object small = fields_fit 9 object SlotIndex.B 0 0 0 (lit< tt) (omega arith) (lit< tt) (omega arith) (lit< tt) (lit< tt)
-
 volume_known : Known volume_fields (volume_record false) Volume
 volume_known =
     written_known 9 0 SlotIndex.A 1 0 1 volume_fits (volume_record false) volume_bytes.0 none_refused.0 numbers_ok.0 Volume
@@ -203,7 +218,7 @@ first_written : (object number : ℕ) (payload : List ℕ) (decoder : Decoder) {
     → SoundPair (record { a = written_slot (fields 9 object SlotIndex.A 1 0 number) payload; b = blank_slot object SlotIndex.B; decoder = decoder; operator = operator })
 first_written object number payload decoder small known =
     record {
-      slots = elim [ SlotIndex.A ↦ known.slot | SlotIndex.B ↦ blank_sound object SlotIndex.B (blank_fits object small) ];
+      slots = elim [ SlotIndex.A ↦ known.slot | SlotIndex.B ↦ blank_sound object SlotIndex.B small ];
       newer = SlotIndex.A;
       info = info_of (fields 9 object SlotIndex.A 1 0 number) payload;
       valid = known.valid;
@@ -241,19 +256,30 @@ second_sound = first_written 2 3 (page_record 1 0) (Page 1 41) (lit≤ tt) secon
 abbrev store_with : Pair → List Pair
 store_with p = volume_pair ∷ p ∷ second_page ∷ []
 
-pub sound_with : (p : Pair) → p.decoder ≡ Page 0 41 → p.operator ≡ 0 → SoundPair p → Sound (store_with p)
-sound_with p page own sound =
+sound_of : (v p : Pair) → v.decoder ≡ Volume → v.operator ≡ 0 → SoundPair v → p.decoder ≡ Page 0 41 → p.operator ≡ 0 → SoundPair p
+    → Sound (v ∷ p ∷ second_page ∷ [])
+sound_of v p volume first known page own sound =
     record {
       row =
-          IsRow.row refl
+          IsRow.row volume
           (Every.more (record { index = 0; most = 41; decoder = page }) (Every.more (record { index = 1; most = 41; decoder = refl }) Every.none))
-          (rw own refl);
-      pairs = Every.more volume_sound (Every.more sound (Every.more second_sound Every.none));
+          (rw (first, own) refl);
+      pairs = Every.more known (Every.more sound (Every.more second_sound Every.none));
     }
 
+pub sound_with : (p : Pair) → p.decoder ≡ Page 0 41 → p.operator ≡ 0 → SoundPair p → Sound (store_with p)
+sound_with p = sound_of volume_pair p refl refl volume_sound
+
+pub volume_last : last_record volume_pair ≡ volume_record false
+unfolding volume_sound first_written
+volume_last = last_is volume_pair volume_sound ∙ volume_known.record_is
+
+pub second_last : last_record second_page ≡ page_record 1 0
+unfolding second_sound first_written
+second_last = last_is second_page second_sound ∙ second_known.record_is
+
 pub unmarked_with : (p : Pair) → store_mark (store_with p) ≡ false
-unfolding volume_sound first_written volume_record_bytes
-unmarked_with p = unmarked_store volume_pair (p ∷ second_page ∷ []) volume_sound (ap (λ (r : List ℕ). get_or r 54 0) volume_known.record_is)
+unmarked_with p = ap clean_mark volume_last ∙ clean_marks.0
 
 -- That of operator 0: the second page's number does not count.
 pub highest_with : (p : Pair) (i j : SlotInfo) → p.operator ≡ 0 → status p.a ≡ SlotStatus.Valid i → status p.b ≡ SlotStatus.Valid j
@@ -371,13 +397,16 @@ module _ (size : ℕ) (before after payload : List ℕ) where
       )
       go false is test = false_true refl test
 
-module _ (w : Write) (sound_store : Sound (store w)) (few : length (store w) ≤ most_pairs) (no_mark : store_mark (store w) ≡ false)
+module _ (w : Write) (sound_store : Sound (store w)) (few : length (store w) ≤ most_pairs) (first_is : VolumeFirst w.before w.pair w.behind)
     (right : CorrectWrite w) (before after : List ℕ) (old_is : old w ≡ before) (new_is : new w ≡ after) where
-  -- Of a correct write to a sound store with no mark the tests are all that is left.
+  -- Of a correct write to a sound store, of pair 0 where the mark is set, the tests are all that is left.
   pub met_by : tear_tests (size w) w.tear after before w.payload ≡ true → IsMet w
   met_by tests =
       let no_accident = tested (size w) before after w.payload w.tear tests in
-      record { sound = sound_store; few = few; unmarked = no_mark; correct = right; possible = no_accident.0; none = rw (new_is, old_is) no_accident.1 }
+      record { sound = sound_store; few = few; first = first_is; correct = right; possible = no_accident.0; none = rw (new_is, old_is) no_accident.1 }
+
+pub unmarked_first : (w : Write) → store_mark (store w) ≡ false → VolumeFirst w.before w.pair w.behind
+unmarked_first w none = unmarked_asked w.before w.pair w.behind none
 
 -- ---- writes
 
@@ -466,7 +495,9 @@ pub new_page_is : (encode new_fields (page_record 0 0x304) (zeros_for new_fields
 new_page_is = summed_is new_fields (page_record 0 0x304) 0xd61e_00d0 0x9755_91c2 new_refusal new_sums.0 new_sums.1
 
 page_met : (k : ℕ) → tear_tests 512 (Ascending k) new_page old_page (page_record 0 0x304) ≡ true → IsMet (page_write k)
-page_met k = met_by (page_write k) sound (lit≤ tt) (unmarked_with first_page) (page_correct k) old_page new_page old_page_is new_page_is
+page_met k =
+    met_by (page_write k) sound (lit≤ tt) (unmarked_first (page_write k) (unmarked_with first_page)) (page_correct k) old_page new_page old_page_is
+    new_page_is
 
 pub page_cuts : PageMet
 unfolding cut header_sum header_bytes page_header_bytes le crc32c final_remainder remainder digest reversed
@@ -488,26 +519,22 @@ page_whole = (whole_at 133, whole_at 134)
 
 -- ---- a write to the volume record, with its clean mark set
 
-volume_length : length (volume_record true) ≡ 64
-unfolding volume_record_bytes
-volume_length = refl
-
-pub volume_sum : header_crc volume_fields (volume_record false) ≡ 0x1d15_7c74
+volume_sums : (header_crc volume_fields (volume_record false) ≡ 0x1d15_7c74) × (crc32c (volume_record false) ≡ 0x69eb_46ec)
 unfolding header_crc header_bytes volume_record_bytes crc32c final_remainder remainder digest reversed
-volume_sum = refl
+volume_sums = (refl, refl)
 
-marked_fits : Fits marked_fields
+pub marked_fits : Fits marked_fields
 marked_fits = fields_fit 9 0 SlotIndex.B 2 0x1d15_7c74 5 (lit< tt) (lit< tt) (lit< tt) (lit< tt) (lit< tt) (lit< tt)
 
 volume_correct : (k : ℕ) → CorrectWrite (volume_write k)
 unfolding volume_sound first_written
 volume_correct k =
     write_correct [] volume_pair (first_page ∷ second_page ∷ []) marked_fields marked_fits refl refl (one_above highest_number)
-    (info_of volume_fields (volume_record false)) (sound_won volume_pair volume_sound) refl (sym volume_sum) (volume_record true) volume_bytes.1
+    (info_of volume_fields (volume_record false)) (sound_won volume_pair volume_sound) refl (sym volume_sums.0) (volume_record true) volume_bytes.1
     volume_accepted.1
-    (rw volume_length (lit≤ tt)) (Ascending k)
+    (volume_room 1 true) (Ascending k)
 
-marked_sums : (header_crc marked_fields (volume_record true) ≡ 0x880c_0bb0) × (crc32c (volume_record true) ≡ 0xa2bd_3d49)
+pub marked_sums : (header_crc marked_fields (volume_record true) ≡ 0x880c_0bb0) × (crc32c (volume_record true) ≡ 0xa2bd_3d49)
 unfolding header_crc header_bytes volume_record_bytes crc32c final_remainder remainder digest reversed
 marked_sums = (refl, refl)
 
@@ -525,7 +552,8 @@ pub marked_bytes_is : (encode marked_fields (volume_record true) (zeros_for mark
 marked_bytes_is = summed_is marked_fields (volume_record true) 0x880c_0bb0 0xa2bd_3d49 marked_refusal marked_sums.0 marked_sums.1
 
 volume_met : (k : ℕ) → tear_tests 512 (Ascending k) marked_bytes blank_bytes (volume_record true) ≡ true → IsMet (volume_write k)
-volume_met k = met_by (volume_write k) sound (lit≤ tt) (unmarked_with first_page) (volume_correct k) blank_bytes marked_bytes refl marked_bytes_is
+volume_met k =
+    met_by (volume_write k) sound (lit≤ tt) (λ set. refl) (volume_correct k) blank_bytes marked_bytes refl marked_bytes_is
 
 pub volume_cuts : VolumeMet
 unfolding cut header_sum header_bytes volume_record_bytes le crc32c final_remainder remainder digest reversed
@@ -537,17 +565,102 @@ volume_cuts =
     (Every.more (volume_met 128 refl) (Every.more (volume_met 191 refl) (Every.more (volume_met 192 refl) Every.none))))))
 
 -- The judge is handed the new record's mark once that record stands whole.
-pub volume_handed : (k : ℕ) → handed (volume_write k)
-    ≡ cond (stands_whole (cut k marked_bytes blank_bytes) marked_bytes (volume_record true)) (clean_mark (volume_record true)) false
+pub handed_is : (w : Write) {before after : List ℕ} {mark : Bool} → w.before ≡ [] → old w ≡ before → new w ≡ after → store_mark (store w) ≡ mark
+    → handed w ≡ cond (stands_whole (torn w.tear after before) after w.payload) (clean_mark w.payload) mark
 unfolding handed
-volume_handed k = rw (marked_bytes_is, unmarked_with first_page)
+handed_is w first old_is new_is mark_is = rw (mark_is, first, old_is, new_is) refl
 
 pub volume_marks : MarkHanded
 unfolding stands_whole cut header_bytes volume_record_bytes
-volume_marks = (torn_handed (volume_write 191) (whole_at 191) ∙ unmarked_with first_page, whole_handed (volume_write 192) refl (whole_at 192) ∙ volume_accepted.2)
+volume_marks = (
+  torn_handed (volume_write 191) (whole_at 191) ∙ unmarked_with first_page,
+  whole_handed (volume_write 192) refl (whole_at 192) ∙ clean_marks.1,
+)
   where
     whole_at : (k : ℕ) → whole (volume_write k) ≡ stands_whole (cut k marked_bytes blank_bytes) marked_bytes (volume_record true)
     whole_at k = rw marked_bytes_is
+
+-- ---- a write to the volume record of a closed store, with its clean mark cleared
+
+marked_known : Known marked_fields (volume_record true) Volume
+marked_known =
+    written_known 9 0 SlotIndex.B 2 0x1d15_7c74 5 marked_fits (volume_record true) volume_bytes.1 marked_refusal refl Volume volume_accepted.1
+
+unfoldable closed_sound : SoundPair closed_volume
+unfolding both_written
+closed_sound = both_written volume_known marked_known refl (lit< tt) (sym volume_sums.0)
+
+pub closed_store_sound : Sound closed_store
+closed_store_sound = sound_of closed_volume first_page refl refl closed_sound refl refl first_sound
+
+pub closed_marked : store_mark closed_store ≡ true
+unfolding closed_sound both_written
+closed_marked = ap clean_mark (last_is closed_volume closed_sound ∙ marked_known.record_is) ∙ clean_marks.1
+
+closed_highest : highest (numbers 0 (shown closed_store)) ≡ 5
+closed_highest =
+    simp (
+      valid_number closed_volume SlotIndex.A (info_of volume_fields (volume_record false)) volume_known.valid,
+      valid_number closed_volume SlotIndex.B (info_of marked_fields (volume_record true)) marked_known.valid,
+      valid_number first_page SlotIndex.A (info_of older_fields (page_record 0 1)) older_known.valid,
+      valid_number first_page SlotIndex.B (info_of newer_fields (page_record 0 2)) newer_known.valid,
+    )
+
+pub opening_fits : Fits opening_fields
+opening_fits = fields_fit 9 0 SlotIndex.A 3 0x880c_0bb0 6 (lit< tt) (lit< tt) (lit< tt) (lit< tt) (lit< tt) (lit< tt)
+
+opening_correct : (k : ℕ) → CorrectWrite (opening_write k)
+unfolding closed_sound both_written
+opening_correct k =
+    write_correct [] closed_volume (first_page ∷ second_page ∷ []) opening_fields opening_fits refl refl (one_above closed_highest)
+    (info_of marked_fields (volume_record true)) (sound_won closed_volume closed_sound) refl (sym marked_sums.0) (reopened_record false) volume_bytes.2
+    volume_accepted.2
+    (volume_room 2 false) (Ascending k)
+
+pub opening_sums : (header_crc opening_fields (reopened_record false) ≡ 0x9172_d3ee) × (crc32c (reopened_record false) ≡ 0xced8_5615)
+unfolding header_crc header_bytes volume_record_bytes crc32c final_remainder remainder digest reversed
+opening_sums = (refl, refl)
+
+opening_refusal : encode_check opening_fields (reopened_record false) 512 ≡ Ok tt
+unfolding encode_check volume_record_bytes
+opening_refusal = refl
+
+abbrev pub volume_slot : List ℕ
+volume_slot = summed_slot 0x1d15_7c74 0x69eb_46ec volume_fields (volume_record false)
+
+abbrev pub opening_bytes : List ℕ
+opening_bytes = summed_slot 0x9172_d3ee 0xced8_5615 opening_fields (reopened_record false)
+
+pub volume_slot_is : (encode volume_fields (volume_record false) (zeros_for volume_fields)).0 ≡ volume_slot
+volume_slot_is = summed_is volume_fields (volume_record false) 0x1d15_7c74 0x69eb_46ec none_refused.0 volume_sums.0 volume_sums.1
+
+pub opening_bytes_is : (encode opening_fields (reopened_record false) (zeros_for opening_fields)).0 ≡ opening_bytes
+opening_bytes_is = summed_is opening_fields (reopened_record false) 0x9172_d3ee 0xced8_5615 opening_refusal opening_sums.0 opening_sums.1
+
+opening_met : (k : ℕ) → tear_tests 512 (Ascending k) opening_bytes volume_slot (reopened_record false) ≡ true → IsMet (opening_write k)
+opening_met k =
+    met_by (opening_write k) closed_store_sound (lit≤ tt) (λ set. refl) (opening_correct k) volume_slot opening_bytes
+    volume_slot_is opening_bytes_is
+
+pub opening_cuts : OpeningMet
+unfolding cut header_sum header_bytes volume_record_bytes le crc32c final_remainder remainder digest reversed
+opening_cuts =
+    Every.more (opening_met 0 refl)
+    (Every.more (opening_met 8 refl)
+    (Every.more (opening_met 11 refl)
+    (Every.more (opening_met 64 refl)
+    (Every.more (opening_met 128 refl)
+    (Every.more (opening_met 136 refl) (Every.more (opening_met 137 refl) (Every.more (opening_met 192 refl) Every.none)))))))
+
+pub opening_marks : OldMarkHanded
+unfolding stands_whole cut header_bytes volume_record_bytes
+opening_marks = (
+  torn_handed (opening_write 136) (whole_at 136) ∙ closed_marked,
+  whole_handed (opening_write 137) refl (whole_at 137) ∙ clean_marks.2,
+)
+  where
+    whole_at : (k : ℕ) → whole (opening_write k) ≡ stands_whole (cut k opening_bytes volume_slot) opening_bytes (reopened_record false)
+    whole_at k = rw (volume_slot_is, opening_bytes_is)
 
 -- ---- a write of a page over a Blank slot
 
@@ -555,7 +668,7 @@ pub second_sum : header_crc second_fields (page_record 1 0) ≡ 0x2c8c_2a3c
 unfolding header_crc header_bytes page_header_bytes crc32c final_remainder remainder digest reversed
 second_sum = refl
 
-next_fits : Fits next_fields
+pub next_fits : Fits next_fields
 next_fits = fields_fit 9 2 SlotIndex.B 2 0x2c8c_2a3c _ (lit< tt) (lit< tt) (lit< tt) (lit< tt) (lit< tt) (lit< tt)
 
 second_correct : (k : ℕ) → CorrectWrite (second_write k)
@@ -566,7 +679,7 @@ second_correct k =
     page_accepted.5
     (page_fits 1 1) (Ascending k)
 
-next_sums : (header_crc next_fields (page_record 1 1) ≡ 0x1916_772d) × (crc32c (page_record 1 1) ≡ 0x09f7_d9dd)
+pub next_sums : (header_crc next_fields (page_record 1 1) ≡ 0x1916_772d) × (crc32c (page_record 1 1) ≡ 0x09f7_d9dd)
 unfolding header_crc header_bytes page_header_bytes crc32c final_remainder remainder digest reversed
 next_sums = (refl, refl)
 
@@ -583,7 +696,8 @@ next_page_is = summed_is next_fields (page_record 1 1) 0x1916_772d 0x09f7_d9dd n
 pub second_cut : SecondMet
 unfolding cut header_sum header_bytes page_header_bytes le crc32c final_remainder remainder digest reversed
 second_cut =
-    met_by (second_write 140) sound (lit≤ tt) (unmarked_with first_page) (second_correct 140) blank_bytes next_page refl next_page_is refl
+    met_by (second_write 140) sound (lit≤ tt) (unmarked_first (second_write 140) (unmarked_with first_page)) (second_correct 140) blank_bytes
+    next_page refl next_page_is refl
 
 -- ---- a write over an older slot B
 
@@ -644,7 +758,8 @@ later_slot_is =
 
 later_met : (k : ℕ) → tear_tests 512 (Ascending k) later_slot newer_slot (page_record 0 0x21b9_61ac) ≡ true → IsMet (later_write k)
 later_met k =
-    met_by (later_write k) later_store_sound (lit≤ tt) (unmarked_with later_page) (later_correct k) newer_slot later_slot newer_slot_is later_slot_is
+    met_by (later_write k) later_store_sound (lit≤ tt) (unmarked_first (later_write k) (unmarked_with later_page)) (later_correct k) newer_slot
+    later_slot newer_slot_is later_slot_is
 
 pub later_cuts : LaterMet
 unfolding cut header_sum header_bytes page_header_bytes le crc32c final_remainder remainder digest reversed
@@ -653,4 +768,4 @@ later_cuts = Every.more (later_met 64 refl) (Every.more (later_met 133 refl) Eve
 -- ---- the hypotheses are the theorem's
 
 pub met_is_enough : MetIsEnough
-met_is_enough w met out room = cut_theorem w met.sound met.few (λ set. false_true met.unmarked set) met.correct met.possible met.none out room
+met_is_enough w met out room = cut_theorem w met.sound met.few met.first met.correct met.possible met.none out room

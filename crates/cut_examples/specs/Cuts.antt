@@ -4,13 +4,13 @@ use Rattle.std.specs.Prelude.{true, false, List, [], ◌∷◌, ℕ, Some, None}
 use Rattle.slot.specs.declared.slot.SlotIndex.{SlotIndex}
 use Rattle.judge.specs.declared.records.SlotRead.{SlotRead}
 use Rattle.cut.specs.Store.{Every}
-use Rattle.cut_examples.specs.Stores.{volume_record, page_record, long_record}
-use Rattle.cut_examples.specs.Writes.{page_write, volume_write, second_write, later_write, long_write, neither, the_first, the_second, both}
+use Rattle.cut_examples.specs.Stores.{volume_record, reopened_record, page_record, long_record}
+use Rattle.cut_examples.specs.Writes.{page_write, volume_write, opening_write, second_write, later_write, long_write, neither, the_first, the_second, both}
 use Rattle.cut_examples.specs.Computed.{Computed, blank_read, bad_magic, torn_header, torn_payload, valid_read}
 
 -- ---- the records
 
--- Before the writes, with the new page, and with the new volume record.
+-- Before the writes, with the new page, and with the clean mark.
 abbrev pub old_records : List (List ℕ)
 old_records = volume_record false ∷ page_record 0 2 ∷ page_record 1 0 ∷ []
 
@@ -19,6 +19,10 @@ new_page_records = volume_record false ∷ page_record 0 0x304 ∷ page_record 1
 
 abbrev pub new_volume_records : List (List ℕ)
 new_volume_records = volume_record true ∷ page_record 0 2 ∷ page_record 1 0 ∷ []
+
+-- After the opening.
+abbrev pub reopened_records : List (List ℕ)
+reopened_records = reopened_record false ∷ page_record 0 2 ∷ page_record 1 0 ∷ []
 
 -- ---- a page is written to slot A of pair 1
 
@@ -67,6 +71,33 @@ pub record VolumeCuts : Type 0 where
   pub volume_191 : Computed (volume_write 191) torn_volume (Some (0, SlotIndex.B)) false (0 ∷ 1 ∷ 0 ∷ 3 ∷ 0 ∷ 2 ∷ 1 ∷ 0 ∷ 0 ∷ 1 ∷ 0 ∷ 1 ∷ []) old_records
   -- The new slot is Valid and newer: Winner. Its mark is handed to the judge and counts.
   pub volume_192 : Computed (volume_write 192) marked_read None true (0 ∷ 2 ∷ 1 ∷ 0 ∷ 0 ∷ 2 ∷ 1 ∷ 0 ∷ 0 ∷ 1 ∷ 0 ∷ 1 ∷ []) new_volume_records
+
+-- ---- the closed store is opened: the volume record is written to slot A of pair 0
+
+abbrev pub volume_read : SlotRead
+volume_read = valid_read 1 1 0x1d15_7c74 0 64
+
+abbrev pub torn_opening : SlotRead
+torn_opening = torn_payload 3 6 0x9172_d3ee 0x880c_0bb0
+
+abbrev pub reopened_read : SlotRead
+reopened_read = valid_read 3 6 0x9172_d3ee 0x880c_0bb0 64
+
+pub record OpeningCuts : Type 0 where
+  -- The old slot is Valid and older: Nothing. The mark of before is handed to the judge and counts.
+  pub opening_0 : Computed (opening_write 0) volume_read None true (0 ∷ 2 ∷ 1 ∷ 0 ∷ 0 ∷ 2 ∷ 1 ∷ 0 ∷ 0 ∷ 1 ∷ 0 ∷ 1 ∷ []) new_volume_records
+  pub opening_8 : Computed (opening_write 8) volume_read None true (0 ∷ 2 ∷ 1 ∷ 0 ∷ 0 ∷ 2 ∷ 1 ∷ 0 ∷ 0 ∷ 1 ∷ 0 ∷ 1 ∷ []) new_volume_records
+  -- The header fails its checksum, and the stored one, of three new bytes and one old, is not B's previous one: InFlight. The mark of before
+  -- is handed to the judge, and does not count beside it.
+  pub opening_11 : Computed (opening_write 11) (torn_header 0x1d72_d3ee) (Some (0, SlotIndex.A)) false (0 ∷ 2 ∷ 3 ∷ 0 ∷ 0 ∷ 2 ∷ 1 ∷ 0 ∷ 0 ∷ 1 ∷ 0 ∷ 1 ∷ []) new_volume_records
+  -- The stored one is the new one: InFlight.
+  pub opening_64 : Computed (opening_write 64) (torn_header 0x9172_d3ee) (Some (0, SlotIndex.A)) false (0 ∷ 2 ∷ 3 ∷ 0 ∷ 0 ∷ 2 ∷ 1 ∷ 0 ∷ 0 ∷ 1 ∷ 0 ∷ 1 ∷ []) new_volume_records
+  -- The payload fails its checksum, generation, previous checksum and number follow on: InFlight.
+  pub opening_128 : Computed (opening_write 128) torn_opening (Some (0, SlotIndex.A)) false (0 ∷ 2 ∷ 3 ∷ 0 ∷ 0 ∷ 2 ∷ 1 ∷ 0 ∷ 0 ∷ 1 ∷ 0 ∷ 1 ∷ []) new_volume_records
+  pub opening_136 : Computed (opening_write 136) torn_opening (Some (0, SlotIndex.A)) false (0 ∷ 2 ∷ 3 ∷ 0 ∷ 0 ∷ 2 ∷ 1 ∷ 0 ∷ 0 ∷ 1 ∷ 0 ∷ 1 ∷ []) new_volume_records
+  -- The new slot is Valid and newer: Winner. Its mark, which is not set, is handed to the judge.
+  pub opening_137 : Computed (opening_write 137) reopened_read None false (0 ∷ 1 ∷ 0 ∷ 1 ∷ 0 ∷ 2 ∷ 1 ∷ 0 ∷ 0 ∷ 1 ∷ 0 ∷ 1 ∷ []) reopened_records
+  pub opening_192 : Computed (opening_write 192) reopened_read None false (0 ∷ 1 ∷ 0 ∷ 1 ∷ 0 ∷ 2 ∷ 1 ∷ 0 ∷ 0 ∷ 1 ∷ 0 ∷ 1 ∷ []) reopened_records
 
 -- What the theorem leaves out: one to six bytes over the Blank slot are a broken magic, which the judge calls damage.
 abbrev pub damaged_volume : List ℕ

@@ -1,4 +1,4 @@
--- Three stores of three pairs, the volume record and two pages, the second one another operator's, in slots of 512 bytes and, for a page of
+-- Four stores of three pairs, the volume record and two pages, the second one another operator's, in slots of 512 bytes and, for a page of
 -- more than one sector, of 1,024 (docs/FORMAT.md, "The sound store and the cut"). The checksums that a slot names are written as numbers.
 use Rattle.std.specs.Prelude.{Bool, true, false, List, [], ◌∷◌, ◌++◌, ℕ, ◌+◌, ◌*◌, ◌^◌, map, replicate}
 use Rattle.slot.specs.Status.{index_number}
@@ -16,9 +16,9 @@ use Rattle.cut.specs.Store.{Volume, Page, Slot, Pair}
 
 -- ---- records
 
--- The volume record of a store with two pages, with its clean mark.
-abbrev pub volume_record : Bool → List ℕ
-volume_record mark =
+-- The volume record of a store with two pages, with its owner generation and its clean mark.
+abbrev pub volume_by : (owner : ℕ) → Bool → List ℕ
+volume_by owner mark =
     volume_bytes
     (record {
       base =
@@ -26,7 +26,7 @@ volume_record mark =
             log2_block_size = 12;
             log2_table_slot_size = 12;
             device_index = 0;
-            owner_generation = 1;
+            owner_generation = owner;
             table_offset = 8192;
             created_unix_s = 0;
             features = 0;
@@ -36,6 +36,13 @@ volume_record mark =
       clean_close = mark;
       flags = 0;
     })
+
+-- That of its first opening, with its clean mark, and that of the second one.
+abbrev pub volume_record : Bool → List ℕ
+volume_record mark = volume_by 1 mark
+
+abbrev pub reopened_record : Bool → List ℕ
+reopened_record mark = volume_by 2 mark
 
 -- A page with no entry.
 abbrev pub page_record : (index next : ℕ) → List ℕ
@@ -132,6 +139,19 @@ volume_fields = fields 9 0 SlotIndex.A 1 0 1
 abbrev pub volume_pair : Pair
 volume_pair = record { a = written_slot volume_fields (volume_record false); b = blank_slot 0 SlotIndex.B; decoder = Volume; operator = 0 }
 
+-- Pair 0 once the store was closed: B of generation 2, which names A's checksum, has the clean mark.
+abbrev pub marked_fields : SlotFields
+marked_fields = fields 9 0 SlotIndex.B 2 0x1d15_7c74 5
+
+abbrev pub closed_volume : Pair
+closed_volume =
+    record {
+      a = written_slot volume_fields (volume_record false);
+      b = written_slot marked_fields (volume_record true);
+      decoder = Volume;
+      operator = 0;
+    }
+
 -- Pair 1: A of generation 1, B of generation 2, which names A's checksum.
 abbrev pub older_fields : SlotFields
 older_fields = fields 9 1 SlotIndex.A 1 0 2
@@ -176,6 +196,10 @@ long_page =
 
 abbrev pub first_store : List Pair
 first_store = volume_pair ∷ first_page ∷ second_page ∷ []
+
+-- The clean mark is set in this one, and in no other.
+abbrev pub closed_store : List Pair
+closed_store = closed_volume ∷ first_page ∷ second_page ∷ []
 
 abbrev pub later_store : List Pair
 later_store = volume_pair ∷ later_page ∷ second_page ∷ []

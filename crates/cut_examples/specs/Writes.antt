@@ -1,25 +1,31 @@
--- The cut theorem is not empty (docs/FORMAT.md, "The sound store and the cut"): five writes to the stores of Stores.antt, one of them to the
--- other operator's page, cut at nineteen places and with four sets of sectors, meet every hypothesis of it.
+-- The cut theorem is not empty (docs/FORMAT.md, "The sound store and the cut"): six writes to the stores of Stores.antt, one of them to the
+-- other operator's page and one to a store whose clean mark is set, cut at twenty-seven places and with four sets of sectors, meet every
+-- hypothesis of it.
 use Rattle.std.specs.Prelude.{◌≡◌, Bool, true, false, ◌==◌, List, [], ◌∷◌, ℕ, ◌*◌, ◌≤◌, length}
 use Rattle.slot.specs.declared.slot.SlotIndex.{SlotIndex}
 use Rattle.slot.specs.declared.slot.SlotFields.{SlotFields}
 use Rattle.judge.specs.Judge.{most_pairs}
 use Rattle.judge.specs.Frames.{verdict_width}
 use Rattle.cut.specs.Store.{Every, Pair, store_mark, Sound}
-use Rattle.cut.specs.Cut.{Tear, Ascending, Sectors, Write, store, size, old, new, left, Possible, CorrectWrite, whole, AccidentBy, handed, Survives}
-use Rattle.cut_examples.specs.Stores.{volume_record, page_record, long_record, fields, zeros_for, volume_pair, first_page, second_page, new_fields, later_page, long_page, first_store, later_store, long_store}
+use Rattle.cut.specs.Cut.{Tear, Ascending, Sectors, Write, store, size, old, new, left, Possible, CorrectWrite, whole, AccidentBy, handed, VolumeFirst, Survives}
+use Rattle.cut_examples.specs.Stores.{volume_record, reopened_record, page_record, long_record, fields, zeros_for, volume_pair, marked_fields, closed_volume, first_page, second_page, new_fields, later_page, long_page, first_store, closed_store, later_store, long_store}
 
 -- ---- the hypotheses
 
 -- The stores are sound.
 abbrev pub StoresSound : Type 0
-StoresSound = Sound first_store × Sound later_store × Sound long_store
+StoresSound = Sound first_store × Sound closed_store × Sound later_store × Sound long_store
+
+-- The clean mark of one is set.
+abbrev pub StoresMarked : Type 0
+StoresMarked =
+    (store_mark first_store ≡ false) × (store_mark closed_store ≡ true) × (store_mark later_store ≡ false) × (store_mark long_store ≡ false)
 
 -- What the theorem asks of a write and its cut.
 pub record IsMet (w : Write) : Type 0 where
   pub sound : Sound (store w)
   pub few : length (store w) ≤ most_pairs
-  pub unmarked : store_mark (store w) ≡ false
+  pub first : VolumeFirst w.before w.pair w.behind
   pub correct : CorrectWrite w
   pub possible : Possible w.tear (size w)
   pub none : AccidentBy w.tear (left w) (old w) (new w) w.payload → ⊥
@@ -48,12 +54,17 @@ write_to before p behind f payload tear =
 abbrev pub page_write : ℕ → Write
 page_write k = write_to (volume_pair ∷ []) first_page (second_page ∷ []) new_fields (page_record 0 0x304) (Ascending k)
 
--- The volume record with its clean mark set to the Blank slot B of pair 0: generation 2, with A's checksum and number 5.
-abbrev pub marked_fields : SlotFields
-marked_fields = fields 9 0 SlotIndex.B 2 0x1d15_7c74 5
-
+-- The store is closed: the volume record with its clean mark set to the Blank slot B of pair 0: generation 2, with A's checksum and number 5.
 abbrev pub volume_write : ℕ → Write
 volume_write k = write_to [] volume_pair (first_page ∷ second_page ∷ []) marked_fields (volume_record true) (Ascending k)
+
+-- The closed store is opened: the volume record with its owner generation raised and its clean mark cleared to slot A of pair 0, over
+-- generation 1: generation 3, with B's checksum and number 6.
+abbrev pub opening_fields : SlotFields
+opening_fields = fields 9 0 SlotIndex.A 3 0x880c_0bb0 6
+
+abbrev pub opening_write : ℕ → Write
+opening_write k = write_to [] closed_volume (first_page ∷ second_page ∷ []) opening_fields (reopened_record false) (Ascending k)
 
 -- A page to the Blank slot B of pair 2: generation 2, with A's checksum and number 4: its operator's highest is 3, and that of the others 4.
 abbrev pub next_fields : SlotFields
@@ -81,8 +92,8 @@ long_write reached = write_to (volume_pair ∷ []) long_page (second_page ∷ []
 abbrev pub StoresWritten : Type 0
 StoresWritten =
     (k : ℕ) (reached : ℕ → Bool)
-    → (store (page_write k) ≡ first_store) × (store (volume_write k) ≡ first_store) × (store (second_write k) ≡ first_store)
-    × (store (later_write k) ≡ later_store) × (store (long_write reached) ≡ long_store)
+    → (store (page_write k) ≡ first_store) × (store (volume_write k) ≡ first_store) × (store (opening_write k) ≡ closed_store)
+    × (store (second_write k) ≡ first_store) × (store (later_write k) ≡ later_store) × (store (long_write reached) ≡ long_store)
 
 -- ---- the cuts
 
@@ -94,6 +105,11 @@ PageMet = Every (λ (k : ℕ). IsMet (page_write k)) (0 ∷ 8 ∷ 11 ∷ 64 ∷ 
 -- After 8 and 11 bytes the header's length is still zero; after 128 the payload is what stood there before.
 abbrev pub VolumeMet : Type 0
 VolumeMet = Every (λ (k : ℕ). IsMet (volume_write k)) (0 ∷ 8 ∷ 11 ∷ 64 ∷ 128 ∷ 191 ∷ 192 ∷ [])
+
+-- After 8 bytes the header is the old one; after 11 and 64 it is neither and fails; after 128 it is the new one; after 136 the payload is the
+-- old one and fails; after 137, with its owner generation, it is the new one, since nothing else of it is new.
+abbrev pub OpeningMet : Type 0
+OpeningMet = Every (λ (k : ℕ). IsMet (opening_write k)) (0 ∷ 8 ∷ 11 ∷ 64 ∷ 128 ∷ 136 ∷ 137 ∷ 192 ∷ [])
 
 -- After 140 bytes the payload is half new, and half what stood there before.
 abbrev pub SecondMet : Type 0
@@ -130,6 +146,9 @@ StandsWhole = (whole (page_write 133) ≡ false) × (whole (page_write 134) ≡ 
 abbrev pub LongWhole : Type 0
 LongWhole = (whole (long_write the_first) ≡ false) × (whole (long_write the_second) ≡ false) × (whole (long_write both) ≡ true)
 
--- The judge is handed the new record's mark once the volume record stands whole.
+-- The judge is handed the new record's mark once the volume record stands whole, and the mark of before until then.
 abbrev pub MarkHanded : Type 0
 MarkHanded = (handed (volume_write 191) ≡ false) × (handed (volume_write 192) ≡ true)
+
+abbrev pub OldMarkHanded : Type 0
+OldMarkHanded = (handed (opening_write 136) ≡ true) × (handed (opening_write 137) ≡ false)

@@ -1,16 +1,17 @@
-// The cut theorem is not empty: three stores of two operators are sound, writes to both slots of a page, to a Blank one and to the volume
-// record are correct, and cuts after no byte, in the header, in the payload and after the last byte, and with any of two sectors, are no
-// accidents. What is judged and read back after each cut is computed, and not concluded from the theorem. Each function does nothing: its
-// contract is what specs/Writes.antt and specs/Cuts.antt say.
+// The cut theorem is not empty: four stores of two operators are sound, writes to both slots of a page, to a Blank one and to the volume
+// record, also of a closed store, are correct, and cuts after no byte, in the header, in the payload and after the last byte, and with any of
+// two sectors, are no accidents. What is judged and read back after each cut is computed, and not concluded from the theorem. Each function
+// does nothing: its contract is what specs/Writes.antt and specs/Cuts.antt say.
 #![tactic(auto)]
 
-ghost use Rattle.cut_examples.specs.Writes.{StoresSound, StoresWritten, MetIsEnough, PageMet, VolumeMet, SecondMet, LaterMet, LongMet, StandsWhole, LongWhole, MarkHanded};
-ghost use Rattle.cut_examples.specs.Cuts.{PageCuts, VolumeCuts, OtherCuts, SectorCuts, MagicCuts};
+ghost use Rattle.cut_examples.specs.Writes.{StoresSound, StoresMarked, StoresWritten, MetIsEnough, PageMet, VolumeMet, OpeningMet, SecondMet, LaterMet, LongMet, StandsWhole, LongWhole, MarkHanded, OldMarkHanded};
+ghost use Rattle.cut_examples.specs.Cuts.{PageCuts, VolumeCuts, OpeningCuts, OtherCuts, SectorCuts, MagicCuts};
 
-// The stores are sound, and they are those that are written to.
-#[tactic(auto, using(crate::proofs::LongWrites::stores_sound))]
+// The stores are sound, one has the clean mark, and they are those that are written to.
+#[tactic(auto, using(crate::proofs::LongWrites::stores_sound, crate::proofs::LongWrites::stores_marked))]
 pub fn stores()
     ensures sound { StoresSound }
+    ensures marked { StoresMarked }
     ensures written { StoresWritten }
 {}
 
@@ -20,29 +21,32 @@ pub fn hypotheses()
     ensures { MetIsEnough }
 {}
 
-// They are met at nineteen cuts of four writes in ascending order, and at four cuts of one by sectors.
-#[tactic(auto, using(crate::proofs::Writes::page_cuts, crate::proofs::Writes::volume_cuts, crate::proofs::Writes::second_cut, crate::proofs::Writes::later_cuts, crate::proofs::LongWrites::long_cuts))]
+// They are met at twenty-seven cuts of five writes in ascending order, and at four cuts of one by sectors.
+#[tactic(auto, using(crate::proofs::Writes::page_cuts, crate::proofs::Writes::volume_cuts, crate::proofs::Writes::opening_cuts, crate::proofs::Writes::second_cut, crate::proofs::Writes::later_cuts, crate::proofs::LongWrites::long_cuts))]
 pub fn met()
     ensures page { PageMet }
     ensures volume { VolumeMet }
+    ensures opening { OpeningMet }
     ensures second { SecondMet }
     ensures later { LaterMet }
     ensures sectors { LongMet }
 {}
 
 // On both sides of the byte, and of the sector, that makes the new record whole.
-#[tactic(auto, using(crate::proofs::Writes::page_whole, crate::proofs::Writes::volume_marks, crate::proofs::LongWrites::long_whole))]
+#[tactic(auto, using(crate::proofs::Writes::page_whole, crate::proofs::Writes::volume_marks, crate::proofs::Writes::opening_marks, crate::proofs::LongWrites::long_whole))]
 pub fn whole()
     ensures page { StandsWhole }
     ensures sectors { LongWhole }
     ensures mark { MarkHanded }
+    ensures old_mark { OldMarkHanded }
 {}
 
 // What is judged and read back after each cut.
-#[tactic(auto, using(crate::proofs::Computed::page_computed, crate::proofs::Computed::volume_computed, crate::proofs::Computed::other_computed, crate::proofs::LongWrites::long_computed))]
+#[tactic(auto, using(crate::proofs::Computed::page_computed, crate::proofs::Computed::volume_computed, crate::proofs::Computed::opening_computed, crate::proofs::Computed::other_computed, crate::proofs::LongWrites::long_computed))]
 pub fn cuts()
     ensures page { PageCuts }
     ensures volume { VolumeCuts }
+    ensures opening { OpeningCuts }
     ensures other { OtherCuts }
     ensures sectors { SectorCuts }
 {}
