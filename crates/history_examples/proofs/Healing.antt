@@ -27,7 +27,7 @@ use Rattle.cut_examples.proofs.LongWrites.{newer_record, new_record, record_byte
 use Rattle.history.specs.History.{standing, started, Allowed, HistoryAccident, Reached}
 use Rattle.history_examples.specs.States.{store_with, page_write}
 use Rattle.history_examples.specs.Healing.{long_put, at_first, torn, torn_again, healed, HealingReached, HealingStates, HealingNumbers}
-use Rattle.history_examples.proofs.Steps.{Fitting, numbers_by, state_by, free, healing, winner_is, no_accident}
+use Rattle.history_examples.proofs.Steps.{Fitting, page_in, numbers_by, state_by, free, healing, winner_is, no_accident}
 
 -- ---- slot A after each step
 
@@ -80,20 +80,21 @@ pub states : HealingStates
 unfolding le decide filled part_bytes judge_frames frames_left frames_error judgement verdicts row_rules first_verdicts first_tally
 states =
     record {
-      first = state_by at_first first_pair refl refl (ap (λ (r : List ℕ). r ∷ []) known_first);
-      cut = state_by torn torn_pair refl refl (ap (λ (r : List ℕ). new_record ∷ r ∷ []) known_first);
-      cut_again = state_by torn_again torn_again_pair refl refl (ap (λ (r : List ℕ). new_record ∷ new_record ∷ r ∷ []) known_first);
-      finished = state_by healed healed_pair refl refl refl;
+      first = state_by (page_in at_first first_pair) SlotIndex.A refl refl (ap (λ (r : List ℕ). r ∷ []) known_first);
+      cut = state_by (page_in torn torn_pair) SlotIndex.A refl refl (ap (λ (r : List ℕ). new_record ∷ r ∷ []) known_first);
+      cut_again =
+          state_by (page_in torn_again torn_again_pair) SlotIndex.A refl refl (ap (λ (r : List ℕ). new_record ∷ new_record ∷ r ∷ []) known_first);
+      finished = state_by (page_in healed healed_pair) SlotIndex.A refl refl refl;
     }
 
 pub numbers : HealingNumbers
 unfolding decide
 numbers =
     record {
-      first = numbers_by at_first first_pair refl refl;
-      cut = numbers_by torn torn_pair refl refl;
-      cut_again = numbers_by torn_again torn_again_pair refl refl;
-      finished = numbers_by healed healed_pair refl refl;
+      first = numbers_by (page_in at_first first_pair) refl refl;
+      cut = numbers_by (page_in torn torn_pair) refl refl;
+      cut_again = numbers_by (page_in torn_again torn_again_pair) refl refl;
+      finished = numbers_by (page_in healed healed_pair) refl refl;
     }
 
 -- ---- the steps
@@ -106,17 +107,17 @@ long_fitting s =
 write_allowed : Allowed (page_write at_first (long_put (Ascending 64)))
 unfolding decide judgement verdicts row_rules first_verdicts first_tally
 write_allowed =
-    free at_first first_pair (long_fitting at_first.pair.a.bytes) (Ascending 64) refl refl refl refl refl
+    free (page_in at_first first_pair) (long_fitting at_first.pair.a.bytes) (Ascending 64) refl refl refl refl refl refl
 
 heal_allowed : Allowed (page_write torn (long_put (Sectors the_first)))
 unfolding decide judgement verdicts row_rules first_verdicts first_tally
 heal_allowed =
-    healing torn torn_pair (long_fitting torn.pair.a.bytes) (Sectors the_first) refl refl refl refl refl
+    healing (page_in torn torn_pair) (long_fitting torn.pair.a.bytes) (Sectors the_first) refl refl refl refl refl
 
 again_allowed : Allowed (page_write torn_again (long_put (Sectors both)))
 unfolding decide judgement verdicts row_rules first_verdicts first_tally
 again_allowed =
-    healing torn_again torn_again_pair (long_fitting torn_again.pair.a.bytes) (Sectors both) refl refl refl refl refl
+    healing (page_in torn_again torn_again_pair) (long_fitting torn_again.pair.a.bytes) (Sectors both) refl refl refl refl refl
 
 -- After the first cut the header fails,
 torn_fails : header_passes torn_slot ≡ false
@@ -127,7 +128,7 @@ write_none : HistoryAccident (page_write at_first (long_put (Ascending 64))) at_
 unfolding decide
 write_none =
     no_accident (page_write at_first (long_put (Ascending 64))) at_first.a
-    (winner_is at_first first_pair (long_fitting at_first.pair.a.bytes) (Ascending 64) write_allowed refl)
+    (winner_is (page_in at_first first_pair) (long_fitting at_first.pair.a.bytes) (Ascending 64) write_allowed refl)
     header_sums.2 refl (inl (rw (new_slot_is, older_slot_is) torn_fails))
 
 -- and after the second the payload, under the new header.
@@ -139,7 +140,7 @@ heal_none : HistoryAccident (page_write torn (long_put (Sectors the_first))) tor
 unfolding decide
 heal_none =
     no_accident (page_write torn (long_put (Sectors the_first))) torn.a
-    (winner_is torn torn_pair (long_fitting torn.pair.a.bytes) (Sectors the_first) heal_allowed refl)
+    (winner_is (page_in torn torn_pair) (long_fitting torn.pair.a.bytes) (Sectors the_first) heal_allowed refl)
     header_sums.2 refl (inr (rw (new_slot_is, older_slot_is) torn_under_new))
 
 pub reached : HealingReached

@@ -1,4 +1,4 @@
 pub mod Steps
 pub mod Healing
 pub mod OlderHeader
-pub mod Closing
+pub mod Life

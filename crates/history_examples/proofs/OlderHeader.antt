@@ -30,7 +30,7 @@ use Rattle.history.specs.History.{standing, same_header, under_after, valid_afte
 use Rattle.history.proofs.Theorem.{harmful_is_accident}
 use Rattle.history_examples.specs.States.{store_with, page_write}
 use Rattle.history_examples.specs.OlderHeader.{at_first, new_put, torn, healing_fields, healing_put, healing_write, stood_again, written, OlderHeaderReached, SlotAsAtFirst, StandsByAccident, StandsWithoutHarm, OlderHeaderStates, OlderHeaderNumbers}
-use Rattle.history_examples.proofs.Steps.{Fitting, numbers_by, state_by, free, healing, winner_is, no_accident}
+use Rattle.history_examples.proofs.Steps.{Fitting, page_in, numbers_by, state_by, free, healing, winner_is, no_accident}
 
 -- ---- the slot of the write that heals
 
@@ -105,20 +105,22 @@ pub states : OlderHeaderStates
 unfolding le decide filled part_bytes judge_frames frames_left frames_error judgement verdicts row_rules first_verdicts first_tally
 states =
     record {
-      first = state_by at_first first_page_read refl refl (ap (λ (r : List ℕ). r ∷ []) known_first);
-      cut = state_by torn torn_pair refl refl (ap (λ (r : List ℕ). page_record 0 0x304 ∷ r ∷ []) known_first);
-      cut_again = state_by stood_again again_pair refl refl (ap (λ (r : List ℕ). page_record 0 2 ∷ page_record 0 0x304 ∷ r ∷ []) known_first);
-      finished = state_by written written_pair refl refl refl;
+      first = state_by (page_in at_first first_page_read) SlotIndex.A refl refl (ap (λ (r : List ℕ). r ∷ []) known_first);
+      cut = state_by (page_in torn torn_pair) SlotIndex.A refl refl (ap (λ (r : List ℕ). page_record 0 0x304 ∷ r ∷ []) known_first);
+      cut_again =
+          state_by (page_in stood_again again_pair) SlotIndex.A refl refl
+          (ap (λ (r : List ℕ). page_record 0 2 ∷ page_record 0 0x304 ∷ r ∷ []) known_first);
+      finished = state_by (page_in written written_pair) SlotIndex.A refl refl refl;
     }
 
 pub numbers : OlderHeaderNumbers
 unfolding decide
 numbers =
     record {
-      first = numbers_by at_first first_page_read refl refl;
-      cut = numbers_by torn torn_pair refl refl;
-      cut_again = numbers_by stood_again again_pair refl refl;
-      finished = numbers_by written written_pair refl refl;
+      first = numbers_by (page_in at_first first_page_read) refl refl;
+      cut = numbers_by (page_in torn torn_pair) refl refl;
+      cut_again = numbers_by (page_in stood_again again_pair) refl refl;
+      finished = numbers_by (page_in written written_pair) refl refl;
     }
 
 -- ---- the accident
@@ -177,23 +179,23 @@ healing_fitting =
 write_allowed : Allowed (page_write at_first (new_put (Ascending 9)))
 unfolding decide judgement verdicts row_rules first_verdicts first_tally
 write_allowed =
-    free at_first first_page_read (page_fitting at_first.pair.a.bytes) (Ascending 9) refl refl refl refl refl
+    free (page_in at_first first_page_read) (page_fitting at_first.pair.a.bytes) (Ascending 9) refl refl refl refl refl refl
 
 heal_allowed : Allowed healing_write
 unfolding decide judgement verdicts row_rules first_verdicts first_tally
 heal_allowed =
-    healing torn torn_pair healing_fitting (Ascending 9) refl refl refl refl refl
+    healing (page_in torn torn_pair) healing_fitting (Ascending 9) refl refl refl refl refl
 
 next_allowed : Allowed (page_write stood_again (new_put (Ascending 512)))
 unfolding decide judgement verdicts row_rules first_verdicts first_tally
 next_allowed =
-    free stood_again again_pair (page_fitting stood_again.pair.a.bytes) (Ascending 512) refl refl refl refl refl
+    free (page_in stood_again again_pair) (page_fitting stood_again.pair.a.bytes) (Ascending 512) refl refl refl refl refl refl
 
 write_none : HistoryAccident (page_write at_first (new_put (Ascending 9))) at_first.a write_allowed.correct.winner → ⊥
 unfolding decide
 write_none =
     no_accident (page_write at_first (new_put (Ascending 9))) at_first.a
-    (winner_is at_first first_page_read (page_fitting at_first.pair.a.bytes) (Ascending 9) write_allowed refl)
+    (winner_is (page_in at_first first_page_read) (page_fitting at_first.pair.a.bytes) (Ascending 9) write_allowed refl)
     new_sums.0 refl (inl (rw torn_left headers.0))
 
 pub reached : OlderHeaderReached

@@ -1,4 +1,4 @@
 pub mod States
 pub mod Healing
 pub mod OlderHeader
-pub mod Closing
+pub mod Life

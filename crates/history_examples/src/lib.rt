@@ -1,11 +1,11 @@
-// The theorem over histories is not empty: two histories of sound stores, in each of which the write that heals is cut too. In the first no
-// accident happens; in the second a header stands again, an accident that does no harm. What is judged and read back after each step is
-// computed, and not concluded from the theorem. Each function does nothing: its contract is what specs/Healing.antt and
-// specs/OlderHeader.antt say.
+// The theorem over histories is not empty: three histories of sound stores. In the first two the write that heals is cut too; no accident
+// happens in the one, and in the other a header stands again, an accident that does no harm. The third is the life of a store, which is
+// closed and opened. What is judged and read back after each step is computed, and not concluded from the theorem. Each function does
+// nothing: its contract is what specs/Healing.antt, specs/OlderHeader.antt and specs/Life.antt say.
 #![tactic(auto)]
 
 ghost use Rattle.history_examples.specs.Healing.{HealingReached, HealingStates, HealingNumbers};
-ghost use Rattle.history_examples.specs.Closing.{Closing};
+ghost use Rattle.history_examples.specs.Life.{LifeReached, LifeStates, LifeNumbers, LifeClosed};
 ghost use Rattle.history_examples.specs.OlderHeader.{OlderHeaderReached, SlotAsAtFirst, StandsByAccident, StandsWithoutHarm, OlderHeaderStates, OlderHeaderNumbers};
 
 // A write is cut in its header, the one that heals after its first sector, and written again it is finished.
@@ -16,10 +16,14 @@ pub fn healing_cut()
     ensures numbers { HealingNumbers }
 {}
 
-// The store is closed.
-#[tactic(auto, using(crate::proofs::Closing::closing))]
-pub fn closed()
-    ensures { Closing }
+// A store is closed, opened, written and closed again. The write that opens it is cut, and healed while the clean mark is set; the page's is
+// cut and healed too.
+#[tactic(auto, using(crate::proofs::Life::reached, crate::proofs::Life::states, crate::proofs::Life::numbers, crate::proofs::Life::while_closed))]
+pub fn closed_and_opened()
+    ensures reached { LifeReached }
+    ensures states { LifeStates }
+    ensures numbers { LifeNumbers }
+    ensures closed { LifeClosed }
 {}
 
 // A write is cut after nine bytes and the one that heals too, which leaves the slot as it was before both; the next write is finished.
