@@ -26,7 +26,7 @@ use Rattle.meta.specs.Base.{base_at, check_base}
 use Rattle.meta.specs.Volume.{tail_at, check_tail, check_volume, decode_volume, volume_bytes as volume_record_bytes}
 use Rattle.meta.specs.Page.{header_at, decode_page, entries, header_row as page_header_row, header_bytes as page_header_bytes}
 use Rattle.cut.specs.Store.{Every, Decoder, Volume, Page, accepts, clean_mark, Pair, slot_at, status, report, shown, last_record, store_mark, Typed, SoundSlot, Beside, SoundPair, IsRow, Sound}
-use Rattle.cut.specs.Cut.{Tear, Ascending, Sectors, Write, store, size, old, new, cut, torn, CutPoint, Possible, CorrectWith, CorrectWrite, stands_whole, whole, payload_in, Accident, payload_by, SectorAccident, AccidentBy, handed, VolumeFirst}
+use Rattle.cut.specs.Cut.{Tear, Ascending, Sectors, Write, store, size, old, new, cut, torn, CutPoint, Possible, Written, CorrectWith, CorrectWrite, stands_whole, whole, payload_in, Accident, payload_by, SectorAccident, AccidentBy, handed, VolumeFirst}
 use Rattle.cut_examples.specs.Stores.{volume_by, volume_record, reopened_record, page_record, rest, fields, read_with, zeros_for, written_slot, blank_slot, volume_fields, volume_pair, marked_fields, closed_volume, older_fields, newer_fields, first_page, second_fields, second_page, new_fields, later_page, first_store, closed_store, later_store}
 use Rattle.cut_examples.specs.Writes.{IsMet, MetIsEnough, write_to, page_write, volume_write, opening_fields, opening_write, next_fields, second_write, later_fields, later_write, PageMet, VolumeMet, OpeningMet, SecondMet, LaterMet, StandsWhole, MarkHanded, OldMarkHanded}
 use Rattle.cut.proofs.ByteLaws.{bytes_tested, row_bytes, slot_all_bytes}
@@ -413,35 +413,36 @@ unmarked_first w none = unmarked_asked w.before w.pair w.behind none
 -- The identity is that of the slot.
 module _ (before : List Pair) (p : Pair) (behind : List Pair) (f : SlotFields) (fits : Fits f) (format : f.format_major ≡ 2)
     (asked : read_with f ≡ (slot_at f.slot_index p).expect) where
+  pub fields_written : {generation prev number : ℕ} → f.generation ≡ generation → f.prev_header_crc32c ≡ prev → f.meta_seq ≡ number
+      → (payload : List ℕ) → AllBytes payload → accepts p.decoder payload ≡ true → 128 + length payload ≤ 2 ^ f.log2_slot_size
+      → (tear : Tear) → Written generation prev number (write_to before p behind f payload tear)
+  fields_written generation prev number payload payload_bytes accepted room tear =
+      record {
+        format = format;
+        volume = ap (λ (e : Expect). e.volume_uuid) asked;
+        object = ap (λ (e : Expect). e.object_id) asked;
+        offset = ap (λ (e : Expect). e.slot_offset) asked;
+        index = ap (λ (e : Expect). e.slot_index) asked;
+        log2 = ap (λ (e : Expect). e.log2_slot_size) asked;
+        generation_is = generation;
+        generation_fits = fits.generation;
+        prev_is = prev;
+        number_is = number;
+        number_fits = fits.number;
+        owner = fits.owner;
+        compat = fits.compat;
+        bytes = payload_bytes;
+        accepted = accepted;
+        fits = room;
+        room = length-replicate (2 ^ f.log2_slot_size) 0;
+      }
+
   pub write_correct : {n : ℕ} → f.meta_seq ≡ n → (i : SlotInfo) → winner_info (report p) ≡ Some ((other f.slot_index), i)
       → f.generation ≡ i.generation + 1 → f.prev_header_crc32c ≡ i.header_crc32c
       → (payload : List ℕ) → AllBytes payload → accepts p.decoder payload ≡ true → 128 + length payload ≤ 2 ^ f.log2_slot_size
       → (tear : Tear) → CorrectWith n (write_to before p behind f payload tear)
   write_correct number i won generation prev payload payload_bytes accepted room tear =
-      record {
-        winner = i;
-        won = won;
-        written =
-            record {
-              format = format;
-              volume = ap (λ (e : Expect). e.volume_uuid) asked;
-              object = ap (λ (e : Expect). e.object_id) asked;
-              offset = ap (λ (e : Expect). e.slot_offset) asked;
-              index = ap (λ (e : Expect). e.slot_index) asked;
-              log2 = ap (λ (e : Expect). e.log2_slot_size) asked;
-              generation_is = generation;
-              generation_fits = fits.generation;
-              prev_is = prev;
-              number_is = number;
-              number_fits = fits.number;
-              owner = fits.owner;
-              compat = fits.compat;
-              bytes = payload_bytes;
-              accepted = accepted;
-              fits = room;
-              room = length-replicate (2 ^ f.log2_slot_size) 0;
-            };
-      }
+      record { winner = i; won = won; written = fields_written generation prev number payload payload_bytes accepted room tear }
 
 -- The number is one above its operator's highest n.
 pub one_above : {m n : ℕ} → m ≡ n → n + 1 ≡ m + 1
