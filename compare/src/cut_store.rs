@@ -82,9 +82,7 @@ fn random_numbers(rng: &mut Rng, operators: &[u8]) -> Vec<[u64; 2]> {
 /// The numbers of all writes to so many pairs, two to each.
 fn handed_out(rng: &mut Rng, pairs: usize) -> Vec<[u64; 2]> {
     let mut numbers: Vec<u64> = (0..2 * pairs as u64).collect();
-    for i in 1..numbers.len() {
-        numbers.swap(i, rng.below(i + 1));
-    }
+    rng.shuffle(&mut numbers);
     let most = rng.pick(&[1, 1000, u64::MAX - 2 * pairs as u64]);
     let lowest = rng.between(1, most);
     let two = numbers.chunks_exact(2).map(|two| [two[0].min(two[1]), two[0].max(two[1])]);

@@ -58,6 +58,13 @@ impl Rng {
         }
     }
 
+    /// Any order of these items.
+    pub fn shuffle<T>(&mut self, items: &mut [T]) {
+        for i in 1..items.len() {
+            items.swap(i, self.below(i + 1));
+        }
+    }
+
     /// Random bytes; now and then only zeros or only ones.
     pub fn bytes(&mut self, len: usize) -> Vec<u8> {
         let mut bytes = match self.below(16) {
