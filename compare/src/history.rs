@@ -7,21 +7,12 @@ use crate::ffi_plan::Written;
 use crate::frames::unread;
 use crate::history_pair::{Accident, Header, Pair, Whole, Write};
 use crate::implementation::{Implementation, Planned};
-use crate::judge_reference::VERDICT;
 use crate::outcome::Expected;
 use crate::part::{number, Fields};
 use crate::plan_reference::{above, heal_numbers, write_numbers, Plan, USED_UP};
 use crate::sample::HEADER;
 use crate::tear::Tear;
 use crate::value::hex;
-
-// What is promised after each write.
-pub const CONFIRMED: &str = "every pair is Confirmed";
-const WRITABLE: &str = "the store is writable";
-pub const NAMED: &str = "no slot but the written one is named for healing";
-pub const KNOWN: &str = "the record that was finished last is read back, or one begun after it";
-pub const DECODED: &str = "the record read back decodes";
-pub const UNMARKED: &str = "the clean mark read back is not set";
 
 pub struct History<'a> {
     tried: &'a dyn Implementation,
@@ -201,25 +192,6 @@ impl<'a> History<'a> {
     fn read(&self, pair: usize) -> ReadBack {
         let pair = &self.pairs[pair];
         ReadBack::found(self.tried, pair.kind, &pair.at, &pair.slots)
-    }
-
-    /// The first promise that the answers after a write do not keep.
-    pub fn broken(&self, found: &Answers) -> Option<&'static str> {
-        let (at, slot) = self.last;
-        let pair = &self.pairs[at];
-        let Answers { judged, read, .. } = found;
-        let [heal, healed, writable, ..] = judged.judgement;
-        let confirmed = judged.refusal == 0 && judged.verdicts.chunks(VERDICT).all(|verdict| verdict[0] == 0);
-        let winner = judged.verdicts.get(VERDICT * at + 1).map(|winner| u32::from(*winner));
-        let kept = [
-            (CONFIRMED, confirmed),
-            (WRITABLE, writable == 1),
-            (NAMED, heal == 0 || (heal, healed) == (slot as u64 + 1, at as u64)),
-            (KNOWN, winner == Some(read.winner) && pair.known.contains(&read.record)),
-            (DECODED, read.decoded == 0),
-            (UNMARKED, !pair.is_marked(&read.record)),
-        ];
-        kept.into_iter().find(|(_, kept)| !kept).map(|(promise, _)| promise)
     }
 
     /// What was answered to all pairs when each was written last.

@@ -1,7 +1,8 @@
 //! Hosts that write wrongly: each must be seen to break a promise, so the promises can be seen to be broken.
 
-use crate::history::{History, CONFIRMED, DECODED, KNOWN, NAMED, UNMARKED};
+use crate::history::History;
 use crate::history_pair::{Pair, Write};
+use crate::history_promises::{CONFIRMED, DECODED, KNOWN, NAMED, UNMARKED};
 use crate::history_writes::{new_record, new_written, random_pair, random_store, random_write};
 use crate::implementation::Library;
 use crate::part::Checked;

@@ -64,6 +64,7 @@ mod history_hosts;
 mod history_made;
 mod history_outcomes;
 mod history_pair;
+mod history_promises;
 mod history_steps;
 mod history_writes;
 mod implementation;
