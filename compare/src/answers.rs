@@ -97,14 +97,20 @@ pub fn owners_differ<'a>(winners: impl Iterator<Item = &'a Vec<u8>>) -> bool {
 
 impl Answers {
     pub fn fields(&self) -> Fields {
-        let mut fields = vec![
-            ("slot's status", number(self.status)),
-            ("refusal", number(self.judged.refusal)),
-            ("verdicts", hex(&self.judged.verdicts)),
-            ("judgement", hex(&self.judged.judgement.packed())),
-        ];
+        let mut fields = vec![("slot's status", number(self.status))];
+        fields.extend(self.judged.fields());
         fields.extend(self.read.fields());
         fields
+    }
+}
+
+impl Judged {
+    pub fn fields(&self) -> Fields {
+        vec![
+            ("refusal", number(self.refusal)),
+            ("verdicts", hex(&self.verdicts)),
+            ("judgement", hex(&self.judgement.packed())),
+        ]
     }
 }
 

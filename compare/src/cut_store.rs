@@ -48,16 +48,22 @@ pub struct Write {
 
 pub fn random_store(rng: &mut Rng, tried: &dyn Implementation, medium: Medium) -> Vec<Pair> {
     let pairs = 1 + rng.below(MOST_OF_SMALL);
-    store_of(rng, tried, pairs, |rng| medium.log2(rng))
+    store_of(rng, tried, pairs, false, |rng| medium.log2(rng))
 }
 
-/// A sound store of so many pairs; `log2` draws the size of each pair's slots.
-pub fn store_of(rng: &mut Rng, tried: &dyn Implementation, pairs: usize, log2: impl Fn(&mut Rng) -> u8) -> Vec<Pair> {
+/// A sound store of so many pairs with this clean mark; `log2` draws the size of each pair's slots.
+pub fn store_of(
+    rng: &mut Rng,
+    tried: &dyn Implementation,
+    pairs: usize,
+    mark: bool,
+    log2: impl Fn(&mut Rng) -> u8,
+) -> Vec<Pair> {
     let volume = (rng.any(), rng.any());
     let operators = random_operators(rng, pairs);
     let numbers = random_numbers(rng, &operators);
     let numbered = operators.into_iter().zip(numbers).enumerate();
-    numbered.map(|(at, numbered)| random_pair(rng, tried, &log2, at, volume, numbered)).collect()
+    numbered.map(|(at, numbered)| random_pair(rng, tried, &log2, (at, mark), volume, numbered)).collect()
 }
 
 /// Two rising numbers for each pair; the highest has a number above it. As a store hands them out to each operator, anything,
@@ -94,12 +100,12 @@ fn rising(rng: &mut Rng, highest: u64) -> [u64; 2] {
     [older, rng.between(older + 1, highest)]
 }
 
-/// Pair `at` of a store: a first A beside a blank B, or an older and a newer slot.
+/// Pair `at` of a store with this clean mark: a first A beside a blank B, or an older and a newer slot.
 fn random_pair(
     rng: &mut Rng,
     tried: &dyn Implementation,
     log2: &impl Fn(&mut Rng) -> u8,
-    at: usize,
+    (at, mark): (usize, bool),
     volume: (u64, u64),
     (operator, [older, newer]): (u8, [u64; 2]),
 ) -> Pair {
@@ -116,7 +122,7 @@ fn random_pair(
         numbered: rng.pick(&YES),
     };
     let blank = rng.one_in(3);
-    let first_mark = !blank && rng.one_in(2);
+    let first_mark = if blank { mark } else { rng.one_in(2) };
     let record = kind.record(rng, fit, None, first_mark);
     let generation = match rng.below(4) {
         _ if blank => 1,
@@ -131,7 +137,7 @@ fn random_pair(
     let mut pair =
         Pair { kind, operator, at, slots, winner: slot, blank, generation, number: older, own, previous, record };
     if !blank {
-        pair.record = kind.record(rng, fit, Some(&pair.record), false);
+        pair.record = kind.record(rng, fit, Some(&pair.record), mark);
         pair.winner = 1 - slot;
         pair.generation += 1;
         pair.number = newer;

@@ -1,11 +1,13 @@
-//! Tries histories: any number of correct writes and healing writes, each of them finished or cut. After each of them
-//! every record that was finished last is read back, or one begun after it, and the store is writable. The library is
-//! tried, and the reference over a weak checksum, so that accidents are met.
+//! Tries histories: any number of correct writes and healing writes, each of them finished or cut. Writes of pair 0 set the
+//! clean mark and clear it, and while it is set no other pair is written. After each write every record that was finished
+//! last is read back, or one begun after it, and the store is writable. The library is tried, and the reference over a weak
+//! checksum, so that accidents are met.
 
 use crate::counts::{Counts, Function};
 use crate::history::History;
 use crate::history_hosts::Hosts;
 use crate::history_made::{made_histories, MADE};
+use crate::history_marks::{count_beginning, count_mark, MARKS};
 use crate::history_outcomes::{count_end, count_step, count_store, RANDOM, USED_UP, WHOLE};
 use crate::history_pair::Accident;
 use crate::history_steps::{Next, Steps};
@@ -42,14 +44,18 @@ pub fn run(seed: u64, histories: &Histories) -> ExitCode {
     let library = Trial::random(
         "writes and healing writes, finished and cut",
         histories.random,
-        steps(seed, &Library, RANDOM, BY_CHANCE, ANY_NUMBER),
+        steps(seed, &Library, &[RANDOM, MARKS], BY_CHANCE, ANY_NUMBER),
     );
-    let weak = Trial::random("the same over a weak checksum", histories.weak, steps(seed, &Weak, RANDOM, SOME, SOME));
+    let weak = Trial::random(
+        "the same over a weak checksum",
+        histories.weak,
+        steps(seed, &Weak, &[RANDOM, MARKS], SOME, SOME),
+    );
     let made = Trial {
         title: "histories made on purpose",
         wanted: histories.made,
         share: MADE_SHARE,
-        steps: steps(seed, &Library, MADE, BY_CHANCE, SOME),
+        steps: steps(seed, &Library, &[MADE], BY_CHANCE, SOME),
         history: made_histories,
     };
     let hosts = Hosts::new(Rng::new(seed));
@@ -62,11 +68,11 @@ pub fn run(seed: u64, histories: &Histories) -> ExitCode {
 fn steps(
     seed: u64,
     tried: &'static dyn Implementation,
-    functions: &[Function],
+    functions: &[&[Function]],
     by_chance: RangeInclusive<u64>,
     again: RangeInclusive<u64>,
 ) -> Steps {
-    let run = Run { rng: Rng::new(seed), counts: Counts::new(functions.iter()) };
+    let run = Run { rng: Rng::new(seed), counts: Counts::new(functions.iter().copied().flatten()) };
     let accidents = Accident::ALL.iter().map(|accident| {
         let allowed = if *accident == Accident::TornAgain { &again } else { &by_chance };
         Accidents::new(accident.name(), !accident.is_harmless(), allowed.clone())
@@ -78,11 +84,15 @@ fn random_history(steps: &mut Steps) -> Checked {
     let store = random_store(&mut steps.run.rng, steps.tried);
     let mut history = History::new(steps.tried, store);
     count_store(&mut steps.run, &history);
+    count_beginning(&mut steps.run, &history);
     steps.every_pair(&history)?;
     let mut ended = WHOLE;
     for _ in 0..1 + steps.run.rng.below(MOST_WRITES) {
         match steps.random(&mut history)? {
-            Next::Step(write, step) => count_step(&mut steps.run, &history, &step, &write),
+            Next::Step(write, step) => {
+                count_step(&mut steps.run, &history, &step, &write);
+                count_mark(&mut steps.run, &history, &step, &write);
+            }
             Next::Accident => return Ok(()),
             Next::UsedUp => {
                 ended = USED_UP;

@@ -2,11 +2,13 @@
 //! after each, beside what docs/FORMAT.md says and what is promised.
 
 use crate::answers::{confirmed, fill_frame, owners_differ, verdict, Answers, Left, ReadBack};
+use crate::cut_records::clean_mark;
 use crate::cut_store::{self, flags_for};
 use crate::ffi_plan::Written;
 use crate::frames::unread;
 use crate::history_pair::{Accident, Header, Pair, Whole, Write};
-use crate::implementation::{Implementation, Planned};
+use crate::history_promises::AfterWrite;
+use crate::implementation::{Implementation, Judged, Planned};
 use crate::outcome::Expected;
 use crate::part::{number, Fields};
 use crate::plan_reference::{above, heal_numbers, write_numbers, Plan, USED_UP};
@@ -30,6 +32,8 @@ pub struct History<'a> {
 pub struct Step {
     /// How many writes in a row have healed with this one; 0 where it heals nothing.
     pub heals: usize,
+    /// The clean mark before the write.
+    pub marked: bool,
     /// The slot before the write.
     pub was: (Header, Left),
     pub untouched: bool,
@@ -43,12 +47,14 @@ pub struct Step {
 #[derive(PartialEq)]
 pub struct Standing {
     frames: Vec<u8>,
+    judged: Judged,
     read: Vec<ReadBack>,
 }
 
 impl Standing {
     pub fn fields(&self) -> Fields {
         let mut fields = vec![("frames", hex(&self.frames))];
+        fields.extend(self.judged.fields());
         fields.extend(self.read.iter().flat_map(ReadBack::fields));
         fields
     }
@@ -75,6 +81,21 @@ impl<'a> History<'a> {
     /// The pair whose other slot is named for healing.
     pub fn named(&self) -> Option<usize> {
         self.pairs.iter().position(Pair::is_named)
+    }
+
+    /// The clean mark of pair 0's record.
+    pub fn mark(&self) -> bool {
+        clean_mark(&self.pairs[0].current.record)
+    }
+
+    /// The same as a host reads it, which hands it to the judge.
+    pub fn mark_read(&self) -> bool {
+        clean_mark(&self.read(0).record)
+    }
+
+    /// The only pair that may be written: where a slot is named its pair, and else pair 0 where the mark is set.
+    pub fn only_pair(&self) -> Option<usize> {
+        self.named().or(self.mark().then_some(0))
     }
 
     /// One above the highest of the numbered slots of a pair's operator.
@@ -117,7 +138,7 @@ impl<'a> History<'a> {
     }
 
     pub fn planned_found(&self, pair: usize) -> Planned {
-        self.tried.planned(&self.frames, pair, self.pairs[pair].operator)
+        self.tried.planned(&self.frames, self.mark_read(), pair, self.pairs[pair].operator)
     }
 
     /// A write by a plan that is finished.
@@ -152,6 +173,7 @@ impl<'a> History<'a> {
     /// Writes a slot, and answers what that leaves; after an accident that is returned nothing is promised.
     pub fn write(&mut self, write: &Write) -> Result<Step, Accident> {
         let heals = self.named() == Some(write.pair);
+        let marked = self.mark();
         self.writes.push((write.pair, heals, write.tear));
         self.heals = if heals { self.heals + 1 } else { 0 };
         let pair = &mut self.pairs[write.pair];
@@ -163,7 +185,7 @@ impl<'a> History<'a> {
         let untouched = *after == before;
         let earlier = left == Left::New && after[..HEADER] != write.bytes[..HEADER];
         let status = fill_frame(self.tried, &mut self.frames, (write.pair, slot), &pair.at, after);
-        Ok(Step { heals: self.heals, was, untouched, left, earlier, status })
+        Ok(Step { heals: self.heals, marked, was, untouched, left, earlier, status })
     }
 
     /// By chance the write, which is cut, has the checksum that the winner has as its previous one: it was not made so, nor
@@ -175,18 +197,32 @@ impl<'a> History<'a> {
         write.tear.is_some() && whole.own() == current.previous() && !made
     }
 
-    /// What the bytes in all slots say after a step, with what is read back of the written pair.
-    pub fn expected(&self, step: &Step) -> Answers {
-        let pair = &self.pairs[self.last.0];
+    /// What the judge answers by the bytes in all slots: the mark does not count beside a slot of pair 0 in flight.
+    fn judged(&self) -> Judged {
         let healed = self.named().map(|named| (named, self.pairs[named].other()));
         let verdicts = self.pairs.iter().flat_map(|pair| verdict(pair.winner, pair.answered().1)).collect();
-        let status = step.left.answered(pair.header == Header::Blank).0.into();
-        let owners_differ = owners_differ(self.pairs.iter().map(|pair| &pair.slots[pair.winner]));
-        Answers { status, judged: confirmed(verdicts, healed, false, owners_differ), read: pair.promised() }
+        let clean = self.mark() && self.named() != Some(0);
+        confirmed(verdicts, healed, clean, owners_differ(self.pairs.iter().map(|pair| &pair.slots[pair.winner])))
     }
 
-    pub fn found(&self, step: &Step) -> Answers {
-        Answers { status: step.status, judged: self.tried.judge(&self.frames, false), read: self.read(self.last.0) }
+    /// What the bytes in all slots say after a step, with what is read back of the written pair and of pair 0.
+    pub fn expected(&self, step: &Step) -> AfterWrite {
+        let pair = &self.pairs[self.last.0];
+        let status = step.left.answered(pair.header == Header::Blank).0.into();
+        let answers = Answers { status, judged: self.judged(), read: pair.promised() };
+        AfterWrite { answers, volume: self.pairs[0].promised() }
+    }
+
+    /// What a host is answered that hands over this mark.
+    pub fn found(&self, step: &Step, mark: bool) -> AfterWrite {
+        let judged = self.tried.judge(&self.frames, mark);
+        let answers = Answers { status: step.status, judged, read: self.read(self.last.0) };
+        AfterWrite { answers, volume: self.read(0) }
+    }
+
+    /// The last write was finished.
+    pub fn is_finished(&self) -> bool {
+        matches!(self.writes.last(), Some((_, _, None)))
     }
 
     fn read(&self, pair: usize) -> ReadBack {
@@ -194,14 +230,17 @@ impl<'a> History<'a> {
         ReadBack::found(self.tried, pair.kind, &pair.at, &pair.slots)
     }
 
-    /// What was answered to all pairs when each was written last.
+    /// What was answered to all pairs when each was written last, and is to the store.
     pub fn standing(&self) -> Standing {
-        Standing { frames: self.frames.clone(), read: self.pairs.iter().map(Pair::promised).collect() }
+        let read = self.pairs.iter().map(Pair::promised).collect();
+        Standing { frames: self.frames.clone(), judged: self.judged(), read }
     }
 
     /// What is answered to them now.
     pub fn standing_found(&self) -> Standing {
-        Standing { frames: self.all_frames(), read: (0..self.pairs.len()).map(|pair| self.read(pair)).collect() }
+        let frames = self.all_frames();
+        let judged = self.tried.judge(&frames, self.mark_read());
+        Standing { frames, judged, read: (0..self.pairs.len()).map(|pair| self.read(pair)).collect() }
     }
 
     /// The store with its writes, and the pair that was written last.
@@ -223,6 +262,7 @@ impl<'a> History<'a> {
             ("slot A", hex(&pair.slots[0])),
             ("slot B", hex(&pair.slots[1])),
             ("frames", hex(&self.frames)),
+            ("clean", number(u8::from(self.mark()))),
         ];
         fields.extend(pair.known.iter().map(|record| ("known record", hex(record))));
         fields

@@ -2,8 +2,8 @@
 
 use crate::history::History;
 use crate::history_pair::{Pair, Write};
-use crate::history_promises::{CONFIRMED, DECODED, KNOWN, NAMED, UNMARKED};
-use crate::history_writes::{new_record, new_written, random_pair, random_store, random_write};
+use crate::history_promises::{CONFIRMED, DECODED, KNOWN, NAMED};
+use crate::history_writes::{new_written, random_pair, random_store, random_write};
 use crate::implementation::Library;
 use crate::part::Checked;
 use crate::plan_reference::{above, Plan};
@@ -77,11 +77,11 @@ const HOSTS: &[Host] = &[
     Host::writing("writes another pair than the named one", NAMED, any_pair),
     Host::writing("writes over the winner", KNOWN, over_the_winner),
     Host::writing("writes a record that does not decode", DECODED, not_decoding),
-    Host::writing("sets the clean mark", UNMARKED, marked),
 ];
 
 fn any_pair(rng: &mut Rng, history: &mut History) -> Option<Write> {
-    let pair = rng.below(history.pairs.len());
+    let named = history.named().is_some();
+    let pair = if named { rng.below(history.pairs.len()) } else { random_pair(rng, history) };
     let plan = history.next(pair).ok()?;
     Some(random_write(rng, history, pair, &plan))
 }
@@ -98,12 +98,6 @@ fn not_decoding(rng: &mut Rng, history: &mut History) -> Option<Write> {
     let pair = random_pair(rng, history);
     let plan = history.next(pair).ok()?;
     Some(history.planned_write(pair, &plan, new_written(rng), &[0xff; 40]))
-}
-
-fn marked(rng: &mut Rng, history: &mut History) -> Option<Write> {
-    let plan = history.next(0).ok()?;
-    let record = new_record(rng, &history.pairs[0], true);
-    Some(history.planned_write(0, &plan, new_written(rng), &record))
 }
 
 /// The trial of these hosts.
@@ -124,7 +118,7 @@ impl Hosts {
         for _ in 0..MOST_WRITES {
             let write = host.next_write(&mut self.rng, &mut history)?;
             let step = history.write(&write).ok()?;
-            let broken = history.broken(&history.found(&step));
+            let broken = history.broken(&history.found(&step, history.mark_read()));
             if broken.is_some() {
                 return broken;
             }

@@ -46,7 +46,7 @@ pub fn made_histories(steps: &mut Steps) -> Checked {
     for (name, script) in SCRIPTS {
         let rng = &mut steps.run.rng;
         let pairs = 2 + rng.below(3);
-        let store = store_of(rng, steps.tried, pairs, |rng| rng.pick(&[9, 11, 12]));
+        let store = store_of(rng, steps.tried, pairs, false, |rng| rng.pick(&[9, 11, 12]));
         let mut history = History::new(steps.tried, store);
         if let Some(answer) = script(steps, &mut history)? {
             steps.run.counts.add(name, answer);

@@ -65,7 +65,6 @@ const A_HEADER: &str = "a torn header";
 const A_PAYLOAD: &str = "a torn payload";
 
 const ROW: &str = "healing writes in a row";
-const AFTERWARDS: &str = "after the write";
 const READ: &str = "record read back";
 const FINISHED_LAST: &str = "finished last";
 const BEGUN: &str = "begun after it";
@@ -91,7 +90,6 @@ pub const RANDOM: &[Function] = &[
     Function::part(FREE_OVER, &[Answer::Decision(BLANK), Answer::Decision(OLDER), Answer::Decision(DAMAGED)]),
     Function::part(HEALING_OVER, &[Answer::Decision(A_HEADER), Answer::Decision(A_PAYLOAD)]),
     Function::part(ROW, &[Answer::Decision("1"), Answer::Decision("2"), Answer::Decision("3 or more")]),
-    Function::part(AFTERWARDS, &[Answer::Decision("a slot is named"), Answer::Decision("no slot is named")]),
     Function::part(READ, &[Answer::Decision(FINISHED_LAST), Answer::Decision(BEGUN)]),
     Function::part(PAIRS, &COUNTS_OF_PAIRS),
     Function::part(PAIRS, &[MORE]),
@@ -164,7 +162,6 @@ pub fn count_step(run: &mut Run, history: &History, step: &Step, write: &Write) 
         2 => add(ROW, "2"),
         _ => add(ROW, "3 or more"),
     }
-    add(AFTERWARDS, if history.named().is_some() { "a slot is named" } else { "no slot is named" });
     let pair = &history.pairs[write.pair];
     add(READ, if pair.current.record == pair.known[0] { FINISHED_LAST } else { BEGUN });
 }

@@ -1,7 +1,7 @@
 //! A pair under the writes of a history: its slots, and what must be known of the writes to say what is answered.
 
 use crate::answers::{Left, ReadBack};
-use crate::cut_records::{clean_mark, Kind};
+use crate::cut_records::Kind;
 use crate::cut_store;
 use crate::ffi_pair::PairIdentity;
 use crate::ffi_plan::Written;
@@ -164,11 +164,6 @@ impl Pair {
     /// The other slot holds a write in flight.
     pub fn is_named(&self) -> bool {
         matches!(self.left, Left::TornHeader | Left::TornPayload)
-    }
-
-    /// A volume record whose clean mark is set.
-    pub fn is_marked(&self, record: &[u8]) -> bool {
-        matches!(self.kind, Kind::Volume) && clean_mark(record)
     }
 
     /// The header in the other slot is this one but for the first byte of its checksum.

@@ -65,7 +65,7 @@ impl Steps {
         Ok(Some(step))
     }
 
-    /// A random write of a random pair, or of the pair whose slot is named.
+    /// A random write of a random pair, or of the only one that may be written.
     pub fn random(&mut self, history: &mut History) -> Result<Next, Mismatch> {
         let pair = random_pair(&mut self.run.rng, history);
         let Ok(plan) = self.plan(history, pair)? else { return Ok(Next::UsedUp) };
@@ -75,7 +75,7 @@ impl Steps {
     }
 
     fn answers(&self, history: &History, step: &Step) -> Checked {
-        let (expected, found) = (history.expected(step), history.found(step));
+        let (expected, found) = (history.expected(step), history.found(step, history.mark_read()));
         let report = || Report { inputs: history.fields(), expected: expected.fields(), found: found.fields() };
         if let Some(promise) = history.broken(&found) {
             self.run.check(promise, false, report)?;

@@ -11,19 +11,23 @@ use crate::rng::Rng;
 use crate::sample::{HEADER, SMALLEST_LOG2};
 use crate::tear::Tear;
 
-/// Of few pairs for the most part, else of many with the smallest slots.
+/// One in so many new volume records has its clean mark set.
+const MARKED_SHARE: usize = 3;
+
+/// Of few pairs for the most part, else of many with the smallest slots; its clean mark set or not.
 pub fn random_store(rng: &mut Rng, tried: &dyn Implementation) -> Vec<cut_store::Pair> {
+    let mark = rng.one_in(2);
     if rng.one_in(64) {
         let pairs = MOST_OF_SMALL + 1 + rng.below(MOST_PAIRS - MOST_OF_SMALL);
-        return store_of(rng, tried, pairs, |_| SMALLEST_LOG2);
+        return store_of(rng, tried, pairs, mark, |_| SMALLEST_LOG2);
     }
     let pairs = 1 + rng.below(MOST_OF_SMALL);
-    store_of(rng, tried, pairs, |rng| rng.pick(&[9, 9, 9, 9, 10, 10, 10, 10, 11, 11, 12]))
+    store_of(rng, tried, pairs, mark, |rng| rng.pick(&[9, 9, 9, 9, 10, 10, 10, 10, 11, 11, 12]))
 }
 
-/// The pair whose slot is named, else any, often the one that was written last.
+/// The only pair that may be written, else any, often the one that was written last.
 pub fn random_pair(rng: &mut Rng, history: &History) -> usize {
-    history.named().unwrap_or_else(|| match rng.below(4) {
+    history.only_pair().unwrap_or_else(|| match rng.below(4) {
         0..=1 => history.last.0,
         _ => rng.below(history.pairs.len()),
     })
@@ -51,7 +55,7 @@ pub fn random_write(rng: &mut Rng, history: &History, at: usize, plan: &Plan) ->
     write
 }
 
-/// One of the pair's, most often where a slot is healed, or a new one. Its clean mark is not set.
+/// One of the pair's, most often where a slot is healed, or a new one.
 fn random_record(rng: &mut Rng, pair: &Pair) -> Vec<u8> {
     let again = match rng.below(if pair.is_named() { 6 } else { 12 }) {
         0..=2 => Some(&pair.current),
@@ -59,8 +63,10 @@ fn random_record(rng: &mut Rng, pair: &Pair) -> Vec<u8> {
         4 => pair.begun.last(),
         _ => None,
     };
-    let record = again.map(|whole| &whole.record).filter(|record| !pair.is_marked(record));
-    record.cloned().unwrap_or_else(|| new_record(rng, pair, false))
+    again.map(|whole| whole.record.clone()).unwrap_or_else(|| {
+        let clean = rng.one_in(MARKED_SHARE);
+        new_record(rng, pair, clean)
+    })
 }
 
 /// A record that follows the winner's; a volume record has this clean mark.

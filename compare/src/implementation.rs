@@ -20,8 +20,8 @@ pub trait Implementation {
     fn frame_slot(&self, slot: &[u8], at: &Identity, numbered: u32) -> (u32, [u8; HALF]);
     fn judge(&self, frames: &[u8], clean: bool) -> Judged;
     fn winner_payload(&self, slots: &[Vec<u8>; 2], at: &PairIdentity) -> WinnerPayload;
-    /// What to write, to this pair of this operator or to heal under a mark that is not set.
-    fn planned(&self, frames: &[u8], pair: usize, operator: u8) -> Planned;
+    /// What to write, to this pair of this operator or to heal under this mark.
+    fn planned(&self, frames: &[u8], clean: bool, pair: usize, operator: u8) -> Planned;
 }
 
 /// The number of a refusal or 0, a verdict for each pair, and the judgement.
@@ -100,13 +100,13 @@ impl Implementation for Library {
         }
     }
 
-    fn planned(&self, frames: &[u8], pair: usize, operator: u8) -> Planned {
+    fn planned(&self, frames: &[u8], clean: bool, pair: usize, operator: u8) -> Planned {
         let frames = cells(frames);
         Planned {
             next_number: left_in(u64::MAX, |number| ffi_plan::next_number(&frames, operator, number)),
             heal_number: left_in(u64::MAX, |number| ffi_plan::heal_number(&frames, operator, number)),
             write: left_in([u64::MAX; 4], |plan| ffi_plan::plan_write(&frames, pair, plan)),
-            heal: left_in([u64::MAX; 5], |plan| ffi_plan::plan_heal(&frames, 0, plan)),
+            heal: left_in([u64::MAX; 5], |plan| ffi_plan::plan_heal(&frames, clean.into(), plan)),
         }
     }
 }

@@ -62,6 +62,7 @@ mod histories;
 mod history;
 mod history_hosts;
 mod history_made;
+mod history_marks;
 mod history_outcomes;
 mod history_pair;
 mod history_promises;

@@ -84,12 +84,12 @@ impl Implementation for Weak {
     }
 
     /// The frames say all of it, and no checksum is taken of them.
-    fn planned(&self, frames: &[u8], pair: usize, operator: u8) -> Planned {
+    fn planned(&self, frames: &[u8], clean: bool, pair: usize, operator: u8) -> Planned {
         Planned {
             next_number: plan_reference::next_number(frames, operator),
             heal_number: plan_reference::heal_number(frames, operator),
             write: plan_reference::plan_write(frames, pair).map(|plan| write_numbers(&plan)),
-            heal: plan_reference::plan_heal(frames, 0).map(|heal| heal_numbers(&heal)),
+            heal: plan_reference::plan_heal(frames, clean.into()).map(|heal| heal_numbers(&heal)),
         }
     }
 }
