@@ -137,6 +137,7 @@ pub fn of_one_operator(row: &[Pair]) -> Vec<Pair> {
 }
 
 pub const BLANK: u8 = 2;
+pub const BAD_MAGIC: u8 = 3;
 pub const BAD_HEADER: u8 = 4;
 pub const UNSUPPORTED: u8 = 5;
 pub const INCOMPATIBLE: u8 = 6;

@@ -4,6 +4,7 @@
 //! checksum, so that accidents are met.
 
 use crate::counts::{Counts, Function};
+use crate::creation_outcomes::CREATIONS;
 use crate::history::History;
 use crate::history_hosts::Hosts;
 use crate::history_made::{made_histories, MADE};
@@ -34,6 +35,9 @@ const RANDOM_SHARE: u64 = 10;
 /// To each of the histories made on purpose one in so many of their writes must come.
 const MADE_SHARE: u64 = 250;
 
+/// One in so many histories begins with a creation.
+const CREATED_SHARE: usize = 4;
+
 const ANY_NUMBER: RangeInclusive<u64> = 0..=u64::MAX;
 const SOME: RangeInclusive<u64> = 1..=u64::MAX;
 
@@ -44,12 +48,12 @@ pub fn run(seed: u64, histories: &Histories) -> ExitCode {
     let library = Trial::random(
         "writes and healing writes, finished and cut",
         histories.random,
-        steps(seed, &Library, &[RANDOM, MARKS], BY_CHANCE, ANY_NUMBER),
+        steps(seed, &Library, &[RANDOM, MARKS, CREATIONS], BY_CHANCE, ANY_NUMBER),
     );
     let weak = Trial::random(
         "the same over a weak checksum",
         histories.weak,
-        steps(seed, &Weak, &[RANDOM, MARKS], SOME, SOME),
+        steps(seed, &Weak, &[RANDOM, MARKS, CREATIONS], SOME, SOME),
     );
     let made = Trial {
         title: "histories made on purpose",
@@ -81,10 +85,12 @@ fn steps(
 }
 
 fn random_history(steps: &mut Steps) -> Checked {
-    let store = random_store(&mut steps.run.rng, steps.tried);
+    let created = steps.run.rng.one_in(CREATED_SHARE);
+    let store = if created { steps.created()? } else { Some(random_store(&mut steps.run.rng, steps.tried)) };
+    let Some(store) = store else { return Ok(()) };
     let mut history = History::new(steps.tried, store);
     count_store(&mut steps.run, &history);
-    count_beginning(&mut steps.run, &history);
+    count_beginning(&mut steps.run, &history, created);
     steps.every_pair(&history)?;
     let mut ended = WHOLE;
     for _ in 0..1 + steps.run.rng.below(MOST_WRITES) {

@@ -7,7 +7,10 @@ use crate::history::{History, Step};
 use crate::history_pair::{Whole, Write};
 use crate::part::Run;
 
-const BEGINS: &str = "history begins";
+/// The mark not set, and set.
+const BEGINS: [Answer; 2] = [Answer::Decision("mark not set"), Answer::Decision("mark set")];
+const WITH_STORE: &str = "history begins with a store";
+const WITH_CREATION: &str = "history begins with a creation";
 
 const FREE: &str = "write of pair 0 where no slot is named";
 const HEALING: &str = "healing write of pair 0";
@@ -30,8 +33,6 @@ const OF_VOLUME: &[Answer] = &[
     Answer::Decision(KEEPS_CLEARED_CUT),
 ];
 
-const CLEARED: &str = "mark not set";
-const SET: &str = "mark set";
 const AFTER: [&str; 2] = ["after the write, mark not set", "after the write, mark set"];
 const NONE_NAMED: &str = "no slot is named";
 const VOLUME_NAMED: &str = "pair 0 is named";
@@ -45,7 +46,8 @@ const RESTING: &[Answer] = &[Answer::Decision(OF_PAIR_0), Answer::Decision(OF_A_
 
 /// Of histories that go on at random. Under a set mark no page is in flight.
 pub const MARKS: &[Function] = &[
-    Function::part(BEGINS, &[Answer::Decision(CLEARED), Answer::Decision(SET)]),
+    Function::part(WITH_STORE, &BEGINS),
+    Function::part(WITH_CREATION, &BEGINS),
     Function::part(FREE, OF_VOLUME),
     Function::part(HEALING, OF_VOLUME),
     Function::part(
@@ -92,6 +94,6 @@ pub fn count_mark(run: &mut Run, history: &History, step: &Step, write: &Write) 
     }
 }
 
-pub fn count_beginning(run: &mut Run, history: &History) {
-    run.counts.add_part(BEGINS, Answer::Decision(if history.mark() { SET } else { CLEARED }));
+pub fn count_beginning(run: &mut Run, history: &History, created: bool) {
+    run.counts.add_part(if created { WITH_CREATION } else { WITH_STORE }, BEGINS[usize::from(history.mark())]);
 }

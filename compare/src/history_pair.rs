@@ -56,11 +56,22 @@ pub enum Accident {
     OldPayload,
     /// By chance the own checksum of a write that is cut is the one that the winner has as its previous one.
     SameChecksum,
+    /// In a page's first write, while pair 0 has no record.
+    FirstPage,
+    /// In pair 0's first write.
+    FirstVolume,
 }
 
 impl Accident {
-    pub const ALL: &'static [Self] =
-        &[Self::Header, Self::TornAgain, Self::NewPayload, Self::OldPayload, Self::SameChecksum];
+    pub const ALL: &'static [Self] = &[
+        Self::Header,
+        Self::TornAgain,
+        Self::NewPayload,
+        Self::OldPayload,
+        Self::SameChecksum,
+        Self::FirstPage,
+        Self::FirstVolume,
+    ];
 
     pub fn name(self) -> &'static str {
         match self {
@@ -69,12 +80,14 @@ impl Accident {
             Self::NewPayload => "payload under the header of a cut write",
             Self::OldPayload => "payload under the older header",
             Self::SameChecksum => "checksum that the winner has as its previous one",
+            Self::FirstPage => "header or payload of a page's first write",
+            Self::FirstVolume => "header or payload of pair 0's first write",
         }
     }
 
     /// What is promised holds after it.
     pub fn is_harmless(self) -> bool {
-        matches!(self, Self::OldPayload | Self::SameChecksum)
+        matches!(self, Self::OldPayload | Self::SameChecksum | Self::FirstPage)
     }
 }
 

@@ -105,7 +105,7 @@ impl Steps {
     }
 }
 
-fn planned_fields(planned: &Planned) -> Fields {
+pub fn planned_fields(planned: &Planned) -> Fields {
     vec![
         ("operator's next number", format!("{:x?}", planned.next_number)),
         ("number above its winners", format!("{:x?}", planned.heal_number)),

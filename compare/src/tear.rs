@@ -80,6 +80,15 @@ impl Tear {
         }
     }
 
+    /// Any cut, now and then one in the magic.
+    pub fn anywhere(rng: &mut Rng, size: usize, end: usize) -> Self {
+        if rng.one_in(4) {
+            Self::Ascending(1 + rng.below(MAGIC.end - 1))
+        } else {
+            Self::random(rng, size, end)
+        }
+    }
+
     /// The set of all sectors of so many bytes.
     pub fn all_sectors(size: usize) -> u128 {
         all(size / SECTOR)

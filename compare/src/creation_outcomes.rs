@@ -1,0 +1,90 @@
+//! What the creations of a trial come to, and which of it a trial must meet.
+
+use crate::answers::Left;
+use crate::counts::{Answer, Function};
+use crate::creation::Cut;
+use crate::cut_outcomes::{operators_answer, COUNTS_OF_OPERATORS};
+use crate::cut_store::{Pair, Write};
+use crate::frames::BAD_MAGIC;
+use crate::part::Run;
+use crate::planning::{number_written, NUMBERS_WRITTEN};
+use crate::sample::{HEADER, MAGIC};
+use crate::tear::Tear;
+
+const BEFORE: &str = "creation";
+pub const BLANK: &str = "in blank slots";
+pub const OVER: &str = "over a store, zeroed before";
+pub const OVER_TORN: &str = "the same, with a torn page";
+pub const AGAIN: &str = "begun anew after a cut";
+
+const OPERATORS: &str = "creation, store of operators";
+const NUMBER: &str = "first write, number";
+
+/// Of pair 0 and of a page.
+const WRITES: [&str; 2] = ["first write of pair 0", "first write of a page"];
+const FINISHED: &str = "finished";
+const BY_BYTES: &str = "cut by bytes";
+const IN_MAGIC: &str = "cut after 1 to 7 bytes";
+const BY_SECTORS: &str = "cut by sectors";
+const OF_WRITES: &[Answer] =
+    &[Answer::Decision(FINISHED), Answer::Decision(BY_BYTES), Answer::Decision(IN_MAGIC), Answer::Decision(BY_SECTORS)];
+
+const CUTS: [&str; 2] = ["first write of pair 0, as cut", "first write of a page, as cut"];
+const NOTHING: &str = "a blank slot";
+const MAGIC_BROKEN: &str = "a broken magic";
+const HEADER_TORN: &str = "a torn header";
+const PAYLOAD_TORN: &str = "a torn payload";
+const NEW_EARLY: &str = "whole before all its bytes";
+const NEW: &str = "whole from all its bytes on";
+const OF_CUTS: &[Answer] = &[
+    Answer::Decision(NOTHING),
+    Answer::Decision(MAGIC_BROKEN),
+    Answer::Decision(HEADER_TORN),
+    Answer::Decision(PAYLOAD_TORN),
+    Answer::Decision(NEW_EARLY),
+    Answer::Decision(NEW),
+];
+
+/// Of histories that begin at random.
+pub const CREATIONS: &[Function] = &[
+    Function::part(
+        BEFORE,
+        &[Answer::Decision(BLANK), Answer::Decision(OVER), Answer::Decision(OVER_TORN), Answer::Decision(AGAIN)],
+    ),
+    Function::part(OPERATORS, COUNTS_OF_OPERATORS),
+    Function::part(NUMBER, NUMBERS_WRITTEN),
+    Function::part(WRITES[0], OF_WRITES),
+    Function::part(WRITES[1], OF_WRITES),
+    Function::part(CUTS[0], OF_CUTS),
+    Function::part(CUTS[1], OF_CUTS),
+];
+
+pub fn count_creation(run: &mut Run, pairs: &[Pair], before: &'static str) {
+    run.counts.add_part(BEFORE, Answer::Decision(before));
+    run.counts.add_part(OPERATORS, operators_answer(pairs.iter().map(|pair| pair.operator)));
+}
+
+pub fn count_first(run: &mut Run, write: &Write, tear: Option<Tear>) {
+    let how = match tear {
+        None => FINISHED,
+        Some(Tear::Ascending(bytes)) if (1..MAGIC.end).contains(&bytes) => IN_MAGIC,
+        Some(Tear::Ascending(_)) => BY_BYTES,
+        Some(Tear::Sectors(_)) => BY_SECTORS,
+    };
+    run.counts.add_part(WRITES[usize::from(write.pair > 0)], Answer::Decision(how));
+    run.counts.add_part(NUMBER, number_written(write.above_all));
+}
+
+/// What a cut left; an accident is counted as one.
+pub fn count_cut(run: &mut Run, write: &Write, tear: Tear, cut: &Cut) {
+    let left = match cut.left {
+        _ if cut.accident.is_some() => return,
+        Left::New if tear.reached(HEADER + write.record.len()) => NEW,
+        Left::New => NEW_EARLY,
+        Left::TornPayload => PAYLOAD_TORN,
+        Left::TornHeader if cut.expected == BAD_MAGIC.into() => MAGIC_BROKEN,
+        Left::TornHeader => HEADER_TORN,
+        _ => NOTHING,
+    };
+    run.counts.add_part(CUTS[usize::from(write.pair > 0)], Answer::Decision(left));
+}
