@@ -1,8 +1,11 @@
 //! Hosts that write wrongly: each must be seen to break a promise, so the promises can be seen to be broken.
 
+use crate::creation::{first_writes, zeros, Act, Creation, NOT_WRITABLE};
+use crate::cut_records::clean_mark;
+use crate::cut_store;
 use crate::history::History;
 use crate::history_pair::{Pair, Write};
-use crate::history_promises::{CONFIRMED, DECODED, KNOWN, NAMED};
+use crate::history_promises::{CONFIRMED, COUNTS, DECODED, KNOWN, NAMED};
 use crate::history_writes::{new_written, random_pair, random_store, random_write};
 use crate::implementation::Library;
 use crate::part::Checked;
@@ -25,31 +28,45 @@ struct Host {
 enum Fault {
     /// It makes this of the plan of the right pair.
     Plan(fn(&History, Plan) -> Plan),
+    /// It writes this pair next.
+    Pair(fn(&mut Rng, &History) -> usize),
     /// It writes this next; `None` where it finds nothing to write.
     Write(fn(&mut Rng, &mut History) -> Option<Write>),
+    /// It hands this mark to the judge.
+    Mark(fn(&History) -> bool),
+    /// Over an older store it creates one in this order.
+    Order(fn(&mut Rng, usize) -> Vec<Act>),
 }
 
 impl Host {
-    const fn planning(name: &'static str, plan: fn(&History, Plan) -> Plan) -> Self {
-        Self { name, breaks: CONFIRMED, fault: Fault::Plan(plan) }
+    const fn new(name: &'static str, breaks: &'static str, fault: Fault) -> Self {
+        Self { name, breaks, fault }
     }
 
-    const fn writing(
-        name: &'static str,
-        breaks: &'static str,
-        write: fn(&mut Rng, &mut History) -> Option<Write>,
-    ) -> Self {
-        Self { name, breaks, fault: Fault::Write(write) }
+    const fn planning(name: &'static str, plan: fn(&History, Plan) -> Plan) -> Self {
+        Self::new(name, CONFIRMED, Fault::Plan(plan))
     }
 
     fn next_write(&self, rng: &mut Rng, history: &mut History) -> Option<Write> {
+        if let Fault::Write(write) = self.fault {
+            return write(rng, history);
+        }
+        let pair = match self.fault {
+            Fault::Pair(pair) => pair(rng, history),
+            _ => random_pair(rng, history),
+        };
+        let right = history.next(pair).ok()?;
+        let plan = match self.fault {
+            Fault::Plan(plan) => plan(history, right),
+            _ => right,
+        };
+        Some(random_write(rng, history, pair, &plan))
+    }
+
+    fn mark(&self, history: &History) -> bool {
         match self.fault {
-            Fault::Plan(plan) => {
-                let pair = random_pair(rng, history);
-                let plan = plan(history, history.next(pair).ok()?);
-                Some(random_write(rng, history, pair, &plan))
-            }
-            Fault::Write(write) => write(rng, history),
+            Fault::Mark(mark) => mark(history),
+            _ => history.mark_read(),
         }
     }
 }
@@ -74,16 +91,24 @@ const HOSTS: &[Host] = &[
     Host::planning("takes the winner's generation again", |_, plan| Plan { generation: plan.generation - 1, ..plan }),
     Host::planning("leaves a generation out", |_, plan| Plan { generation: plan.generation.saturating_add(1), ..plan }),
     Host::planning("has another previous checksum", |_, plan| Plan { previous: plan.previous ^ 1, ..plan }),
-    Host::writing("writes another pair than the named one", NAMED, any_pair),
-    Host::writing("writes over the winner", KNOWN, over_the_winner),
-    Host::writing("writes a record that does not decode", DECODED, not_decoding),
+    Host::new("writes another pair than the named one", NAMED, Fault::Pair(any_pair)),
+    Host::new("writes over the winner", KNOWN, Fault::Write(over_the_winner)),
+    Host::new("writes a record that does not decode", DECODED, Fault::Write(not_decoding)),
+    // Under the mark no write was in flight, so a page that is torn is damage.
+    Host::new("writes a page under the mark", CONFIRMED, Fault::Pair(page_under_the_mark)),
+    // Once the store is opened a torn page is damage to this one as well, but the mark counts wrongly before.
+    Host::new("hands over the mark of the older record", COUNTS, Fault::Mark(mark_of_the_older)),
+    // With pair 0's record the others are lost pages of a store, which is writable without them.
+    Host::new("writes pair 0 first", NOT_WRITABLE, Fault::Order(volume_first)),
+    Host::new("zeroes the pages before pair 0", NOT_WRITABLE, Fault::Order(pages_zeroed_first)),
 ];
 
-fn any_pair(rng: &mut Rng, history: &mut History) -> Option<Write> {
-    let named = history.named().is_some();
-    let pair = if named { rng.below(history.pairs.len()) } else { random_pair(rng, history) };
-    let plan = history.next(pair).ok()?;
-    Some(random_write(rng, history, pair, &plan))
+fn any_pair(rng: &mut Rng, history: &History) -> usize {
+    if history.named().is_some() {
+        rng.below(history.pairs.len())
+    } else {
+        random_pair(rng, history)
+    }
 }
 
 fn over_the_winner(rng: &mut Rng, history: &mut History) -> Option<Write> {
@@ -100,6 +125,31 @@ fn not_decoding(rng: &mut Rng, history: &mut History) -> Option<Write> {
     Some(history.planned_write(pair, &plan, new_written(rng), &[0xff; 40]))
 }
 
+fn page_under_the_mark(rng: &mut Rng, history: &History) -> usize {
+    let pages = history.pairs.len() - 1;
+    if pages > 0 && history.named().is_none() && history.mark() {
+        1 + rng.below(pages)
+    } else {
+        random_pair(rng, history)
+    }
+}
+
+fn mark_of_the_older(history: &History) -> bool {
+    history.pairs[0].older.as_ref().is_some_and(|older| clean_mark(&older.record))
+}
+
+fn volume_first(rng: &mut Rng, pairs: usize) -> Vec<Act> {
+    let mut writes = first_writes(rng, pairs);
+    writes.rotate_right(1);
+    [zeros(rng, pairs), writes].concat()
+}
+
+fn pages_zeroed_first(rng: &mut Rng, pairs: usize) -> Vec<Act> {
+    let mut zeros = zeros(rng, pairs);
+    zeros.rotate_left(1);
+    [zeros, first_writes(rng, pairs)].concat()
+}
+
 /// The trial of these hosts.
 pub struct Hosts {
     rng: Rng,
@@ -112,18 +162,39 @@ impl Hosts {
         Self { rng, broken: BTreeMap::new() }
     }
 
-    /// The promise that is broken first in a history of a host.
+    /// The promise that is broken first in a history or a creation of a host.
     fn broken_by(&mut self, host: &Host) -> Option<&'static str> {
-        let mut history = History::new(&Library, random_store(&mut self.rng, &Library));
+        let store = random_store(&mut self.rng, &Library);
+        match host.fault {
+            Fault::Order(order) => self.broken_in_creation(order, store),
+            _ => self.broken_in_history(host, store),
+        }
+    }
+
+    fn broken_in_history(&mut self, host: &Host, store: Vec<cut_store::Pair>) -> Option<&'static str> {
+        let mut history = History::new(&Library, store);
         for _ in 0..MOST_WRITES {
             let write = host.next_write(&mut self.rng, &mut history)?;
             let step = history.write(&write).ok()?;
-            let broken = history.broken(&history.found(&step, history.mark_read()));
+            let broken = history.broken(&history.found(&step, host.mark(&history)));
             if broken.is_some() {
                 return broken;
             }
         }
         None
+    }
+
+    fn broken_in_creation(
+        &mut self,
+        order: fn(&mut Rng, usize) -> Vec<Act>,
+        store: Vec<cut_store::Pair>,
+    ) -> Option<&'static str> {
+        let acts = order(&mut self.rng, store.len());
+        let mut creation = Creation::over(&Library, store);
+        acts.into_iter().find_map(|act| {
+            creation.act(&mut self.rng, act);
+            creation.broken(&creation.judged_found())
+        })
     }
 }
 

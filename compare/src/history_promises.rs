@@ -14,7 +14,7 @@ pub const KNOWN: &str = "the record that was finished last is read back, or one 
 pub const DECODED: &str = "the record read back decodes";
 const MARK_READ: &str = "the mark read from pair 0 is that of the winner's record";
 const MARK_WRITTEN: &str = "after a finished write of pair 0 the mark is that of its record";
-const COUNTS: &str = "where no slot is named the mark counts as it is read";
+pub const COUNTS: &str = "where no slot is named the mark counts as it is read";
 const NOT_COUNTED: &str = "where a slot of pair 0 is named the mark does not count";
 const PAGE_NAMED: &str = "a page is named only where the mark is not set";
 
