@@ -98,6 +98,10 @@ impl<'a> History<'a> {
         self.named().or(self.mark().then_some(0))
     }
 
+    pub fn may_write(&self, pair: usize) -> bool {
+        [None, Some(pair)].contains(&self.only_pair())
+    }
+
     /// One above the highest of the numbered slots of a pair's operator.
     pub fn next_number(&self, pair: usize) -> Expected<u64> {
         above(self.of_operator(pair).flat_map(Pair::numbers))
