@@ -178,7 +178,7 @@ pub fn random_write(rng: &mut Rng, tried: &dyn Implementation, medium: Medium, s
     let mark = matches!(pair.kind, Kind::Volume) && clean_mark(&record);
     let mut version = version(rng, pair.generation + 1, highest + 1, pair.own);
     let at = pair.at.slot(slot as u32);
-    let same_checksum = rng.one_in(16);
+    let same_checksum = rng.one_in(8);
     if same_checksum {
         version.compat_flags = flags_for(tried, &at, &version, &record, (pair.previous, tried.checksum_bits()));
     }

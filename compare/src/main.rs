@@ -145,7 +145,7 @@ const QUICK_SEED: u64 = 0x5106_2026;
 const QUICK_ROUNDS: u64 = 100_000;
 const LONG_ROUNDS: u64 = 1_000_000;
 
-const QUICK_CUTS: Cuts = Cuts { ascending: 1_000_000, sectors: 40_000, weak_ascending: 160_000, weak_sectors: 40_000 };
+const QUICK_CUTS: Cuts = Cuts { ascending: 1_000_000, sectors: 40_000, weak_ascending: 240_000, weak_sectors: 40_000 };
 const LONG_CUTS: Cuts =
     Cuts { ascending: 40_000_000, sectors: 12_000_000, weak_ascending: 4_000_000, weak_sectors: 4_000_000 };
 
