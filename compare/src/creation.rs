@@ -185,7 +185,8 @@ impl<'a> Creation<'a> {
         let record = pair.kind.record(rng, fitting_entries(pair.slots[0].len()), Some(&pair.record), mark);
         let (new, _) = self.tried.encode(&pair.at.slot(plan.slot as u32), &plan.version(new_written(rng)), &record);
         let above_all = self.with_record().all(|pair| pair.number < plan.number);
-        Write { pair: at, slot: plan.slot, record, mark: mark && at == 0, same_checksum: false, above_all, new }
+        let mark = mark && at == 0;
+        Write { pair: at, slot: plan.slot, record, marked: false, mark, same_checksum: false, above_all, new }
     }
 
     /// Writes all of a slot.

@@ -52,6 +52,29 @@ const IN_SECTORS: &[Answer] = &[
 ];
 
 const MARK: &str = "clean mark handed";
+const NOT_SET: &str = "not set";
+const COUNTS: &str = "set, counts";
+const NOT_COUNTED: &str = "set, pair 0 in flight";
+
+/// By what the new record of pair 0 does to the clean mark, or would do where it is not whole.
+const SETS: &str = "cut that sets the mark";
+const CLEARS: &str = "cut that clears the mark";
+const KEEPS_SET: &str = "cut that keeps it set";
+const KEEPS_CLEARED: &str = "cut that keeps it cleared";
+const VOLUME_OLD: &str = "old";
+const VOLUME_HEADER: &str = "torn header, in flight";
+const VOLUME_COUNTS_OLDER: &str = "torn header that counts as older";
+const VOLUME_PAYLOAD: &str = "torn payload, in flight";
+const VOLUME_NEW: &str = "whole";
+const VOLUME_BY_BYTES: &[Answer] = &[
+    Answer::Decision(VOLUME_OLD),
+    Answer::Decision(VOLUME_HEADER),
+    Answer::Decision(VOLUME_COUNTS_OLDER),
+    Answer::Decision(VOLUME_PAYLOAD),
+    Answer::Decision(VOLUME_NEW),
+];
+const VOLUME_IN_A_SECTOR: &[Answer] = &[Answer::Decision(VOLUME_OLD), Answer::Decision(VOLUME_NEW)];
+
 const SLOT: &str = "slot written";
 const SIZE: &str = "slot of bytes";
 const PAIRS: &str = "store of pairs";
@@ -83,7 +106,7 @@ pub fn operators_answer(operators: impl Iterator<Item = u8>) -> Answer {
 
 /// Of every trial.
 pub const ANY: &[Function] = &[
-    Function::part(MARK, &[Answer::Decision("false"), Answer::Decision("true")]),
+    Function::part(MARK, &[Answer::Decision(NOT_SET), Answer::Decision(COUNTS)]),
     Function::part(SLOT, &[Answer::Decision("A"), Answer::Decision("B")]),
     Function::part(PAIRS, &COUNTS_OF_PAIRS),
     Function::part(OPERATORS, COUNTS_OF_OPERATORS),
@@ -99,6 +122,11 @@ pub const ASCENDING: &[Function] = &[
     Function::new(PAGE_BLANK, BY_BYTES),
     Function::new(PAGE_OLDER, BY_BYTES),
     Function::new(PAGE_OLDER, &[Answer::Decision(OLDER_HEADER)]),
+    Function::part(MARK, &[Answer::Decision(NOT_COUNTED)]),
+    Function::part(SETS, VOLUME_BY_BYTES),
+    Function::part(CLEARS, VOLUME_BY_BYTES),
+    Function::part(KEEPS_SET, VOLUME_BY_BYTES),
+    Function::part(KEEPS_CLEARED, VOLUME_BY_BYTES),
     Function::part(SIZE, &[SIZES[0], SIZES[1], SIZES[3]]),
     Function::part(SAME_CHECKSUM, &[Answer::Decision(FIRST), Answer::Decision(LATER)]),
 ];
@@ -110,6 +138,10 @@ pub const BY_SECTORS: &[Function] = &[
     Function::new(PAGE_BLANK, IN_SECTORS),
     Function::new(PAGE_OLDER, IN_SECTORS),
     Function::new(PAGE_OLDER, &[Answer::Decision(OLDER_PAYLOAD)]),
+    Function::part(SETS, VOLUME_IN_A_SECTOR),
+    Function::part(CLEARS, VOLUME_IN_A_SECTOR),
+    Function::part(KEEPS_SET, VOLUME_IN_A_SECTOR),
+    Function::part(KEEPS_CLEARED, VOLUME_IN_A_SECTOR),
     Function::part(SIZE, &SIZES),
     Function::part(SECTORS, &[Answer::Decision("none"), Answer::Decision("some"), Answer::Decision("all")]),
     Function::part(RECORD, &[Answer::Decision("one sector"), Answer::Decision("several sectors")]),
@@ -166,12 +198,44 @@ pub fn outcome(cutting: &Cutting, left: Left, write: &Write, tear: Tear) -> Answ
     })
 }
 
+fn change(write: &Write) -> &'static str {
+    match (write.marked, write.mark) {
+        (false, true) => SETS,
+        (true, false) => CLEARS,
+        (true, true) => KEEPS_SET,
+        (false, false) => KEEPS_CLEARED,
+    }
+}
+
+/// What is left of a write of pair 0, whose record lies in its header's sector.
+fn volume_left(left: Left) -> &'static str {
+    match left {
+        Left::Old => VOLUME_OLD,
+        Left::OlderPayload => OLDER_PAYLOAD,
+        Left::OlderPasses => OLDER_PASSES,
+        Left::TornHeader => VOLUME_HEADER,
+        Left::OlderHeader => VOLUME_COUNTS_OLDER,
+        Left::TornPayload => VOLUME_PAYLOAD,
+        Left::New => VOLUME_NEW,
+    }
+}
+
 pub fn count_cut(run: &mut Run, cutting: &Cutting, left: Left, write: &Write, tear: Tear) {
     if left == Left::TornPayload {
         run.counts.add_part(IN_FLIGHT, number_written(write.above_all));
     }
     let mut add = |name, answer| run.counts.add_part(name, Answer::Decision(answer));
-    add(MARK, if cutting.mark(left) { "true" } else { "false" });
+    add(
+        MARK,
+        match (cutting.mark(left), cutting.counts(left)) {
+            (false, _) => NOT_SET,
+            (true, true) => COUNTS,
+            (true, false) => NOT_COUNTED,
+        },
+    );
+    if write.pair == 0 {
+        add(change(write), volume_left(left));
+    }
     match tear {
         Tear::Sectors(0) => add(SECTORS, "none"),
         Tear::Sectors(_) if tear.reached(write.new.len()) => add(SECTORS, "all"),

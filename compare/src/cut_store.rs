@@ -13,6 +13,9 @@ use crate::tear::Medium;
 
 pub const MOST_OF_SMALL: usize = 8;
 
+/// One in so many stores has its clean mark set.
+const MARKED_SHARE: usize = 4;
+
 /// A pair: its slots as they are stored, and what is known of the slot that wins.
 pub struct Pair {
     pub kind: Kind,
@@ -37,7 +40,9 @@ pub struct Write {
     /// 0 for A, 1 for B.
     pub slot: usize,
     pub record: Vec<u8>,
-    /// The new record's clean mark; false for a page.
+    /// The store's clean mark before the write.
+    pub marked: bool,
+    /// The same where the new record stands whole: that of a volume record.
     pub mark: bool,
     /// The header has the checksum that the winner has as its previous one.
     pub same_checksum: bool,
@@ -46,9 +51,11 @@ pub struct Write {
     pub new: Vec<u8>,
 }
 
+/// Its clean mark is set or not.
 pub fn random_store(rng: &mut Rng, tried: &dyn Implementation, medium: Medium) -> Vec<Pair> {
     let pairs = 1 + rng.below(MOST_OF_SMALL);
-    store_of(rng, tried, pairs, false, |rng| medium.log2(rng))
+    let mark = rng.one_in(MARKED_SHARE);
+    store_of(rng, tried, pairs, mark, |rng| medium.log2(rng))
 }
 
 /// A sound store of so many pairs with this clean mark; `log2` draws the size of each pair's slots.
@@ -163,10 +170,11 @@ fn version(rng: &mut Rng, generation: u64, number: u64, previous: u32) -> Versio
     }
 }
 
-/// A correct write of any pair. What counts for nothing in the slot below it is filled here: bytes after a blank header
+/// A correct write of any pair, of pair 0 where the clean mark is set. What counts for nothing in the slot below it is filled here: bytes after a blank header
 /// or after an older payload, anything or what is about to be written there.
 pub fn random_write(rng: &mut Rng, tried: &dyn Implementation, medium: Medium, store: &mut [Pair]) -> Write {
-    let written = medium.pair(rng, store.len());
+    let marked = clean_mark(&store[0].record);
+    let written = if marked { 0 } else { medium.pair(rng, store.len()) };
     let own = store.iter().filter(|pair| pair.operator == store[written].operator);
     let highest = own.map(|pair| pair.number).max().unwrap_or(0);
     let above_all = store.iter().all(|pair| pair.number <= highest);
@@ -175,7 +183,7 @@ pub fn random_write(rng: &mut Rng, tried: &dyn Implementation, medium: Medium, s
     let fit = fitting_entries(pair.slots[slot].len());
     let mark = rng.one_in(2);
     let record = pair.kind.record(rng, fit, Some(&pair.record), mark);
-    let mark = matches!(pair.kind, Kind::Volume) && clean_mark(&record);
+    let mark = if written == 0 { clean_mark(&record) } else { marked };
     let mut version = version(rng, pair.generation + 1, highest + 1, pair.own);
     let at = pair.at.slot(slot as u32);
     let same_checksum = rng.one_in(8);
@@ -190,7 +198,7 @@ pub fn random_write(rng: &mut Rng, tried: &dyn Implementation, medium: Medium, s
         1 => below.copy_from_slice(&new[counts..]),
         _ => (),
     }
-    Write { pair: written, slot, record, mark, same_checksum, above_all, new }
+    Write { pair: written, slot, record, marked, mark, same_checksum, above_all, new }
 }
 
 /// The compatible flags with which a header has the lowest `bits` of the checksum `wanted`. The checksum is a sum without

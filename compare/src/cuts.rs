@@ -1,6 +1,6 @@
 //! Tries the cut theorem: after any cut of a correct write of a sound store every record is read back as it was last
-//! written, the store is writable, and nothing is healed but the written slot. The library is tried, and the reference
-//! over a weak checksum, so that accidents are met.
+//! written, the store is writable, and nothing is healed but the written slot. Where the clean mark is set, pair 0 is
+//! written. The library is tried, and the reference over a weak checksum, so that accidents are met.
 
 use crate::answers::ReadBack;
 use crate::counts::{Counts, Function};

@@ -122,9 +122,19 @@ impl<'a> Cutting<'a> {
         }
     }
 
-    /// The clean mark that the judge is handed.
+    /// The clean mark that the judge is handed: that of pair 0's last written record.
     pub fn mark(&self, left: Left) -> bool {
-        left == Left::New && self.write.mark
+        if left == Left::New {
+            self.write.mark
+        } else {
+            self.write.marked
+        }
+    }
+
+    /// The mark counts: it is set, and no write of pair 0 is in flight.
+    pub fn counts(&self, left: Left) -> bool {
+        let (_, says) = left.answered(self.pair().blank);
+        self.mark(left) && (self.write.pair != 0 || says != IN_FLIGHT)
     }
 
     pub fn promised(&self, left: Left) -> Answers {
@@ -141,7 +151,7 @@ impl<'a> Cutting<'a> {
         let winners = others.map(|(_, pair)| &pair.slots[pair.winner]).chain([&self.slots[winner]]);
         Answers {
             status: status.into(),
-            judged: confirmed(verdicts, healed, self.mark(left), owners_differ(winners)),
+            judged: confirmed(verdicts, healed, self.counts(left), owners_differ(winners)),
             read: ReadBack::promised(winner, statuses, record),
         }
     }
