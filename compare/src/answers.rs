@@ -14,7 +14,6 @@ use std::collections::BTreeSet;
 pub const NOTHING: u8 = 1;
 pub const OLDER_DAMAGED: u8 = 2;
 pub const IN_FLIGHT: u8 = 3;
-pub const DAMAGE: u8 = 4;
 
 /// What a cut leaves in the written slot: by its bytes alone, and for another payload under the old header by its checksum.
 #[derive(Clone, Copy, PartialEq)]

@@ -1,162 +1,155 @@
-//! A store while it is created: zeros where a store was, then the first write of each pair, that of pair 0 last. What a host
-//! is told to write, and what the judge answers, beside what docs/FORMAT.md says ("What a correct write is", "The store
-//! verdict") and what is promised.
+//! A store while it is created: zeros where a store was, then the first write of each pair, that of pair 0 last. What it
+//! holds, and what a host is told to write, beside what docs/FORMAT.md says ("What a correct write is").
 
-use crate::answers::{fill_frame, owners_differ, verdict, Left, DAMAGE, IN_FLIGHT, NOTHING};
+use crate::answers::fill_frame;
+use crate::creation_slots::Held;
 use crate::cut_store::{fitting_entries, random_write, Pair, Write};
-use crate::cutting::Cutting;
-use crate::frames::{unread, BAD_MAGIC};
-use crate::history_pair::{Accident, Whole};
+use crate::frames::unread;
+use crate::history_pair::Whole;
 use crate::history_writes::new_written;
-use crate::implementation::{Implementation, Judged, Planned};
-use crate::judge_reference::VERDICT;
+use crate::implementation::{Implementation, Planned};
 use crate::outcome::Expected;
-use crate::part::{number, Fields};
 use crate::plan_reference::{above, heal_numbers, write_numbers, Plan};
 use crate::rng::Rng;
-use crate::sample::{HEADER, MAGIC};
+use crate::sample::HEADER;
 use crate::tear::{Medium, Tear};
-use crate::value::hex;
 
-// What is promised until every pair has a record, under either mark.
-pub const NOT_WRITABLE: &str = "a store of which a pair has no record is not writable";
-const NONE_NAMED: &str = "no slot of it is named for healing";
+/// The slots of a pair.
+pub const SLOTS: usize = 2;
 
-/// The verdict on a pair without a Valid slot: Lost, no winner.
-const LOST: [u8; VERDICT] = [2, 0, DAMAGE, DAMAGE];
-
-/// The verdict on a page with this winner where pair 0 is Lost: what would be in flight is Damage, and the page Unconfirmed.
-fn beside_lost(winner: usize, other: u8) -> [u8; VERDICT] {
-    if other != IN_FLIGHT {
-        return verdict(winner, other);
-    }
-    let [_, winner, a, b] = verdict(winner, DAMAGE);
-    [1, winner, a, b]
+/// The slots that are zeroed: those of pair 0, and then those of the pages, each in any order.
+pub fn slots_zeroed(rng: &mut Rng, pairs: usize) -> Vec<(usize, usize)> {
+    let mut slots: Vec<(usize, usize)> = (0..pairs).flat_map(|at| [(at, 0), (at, 1)]).collect();
+    rng.shuffle(&mut slots[..SLOTS]);
+    rng.shuffle(&mut slots[SLOTS..]);
+    slots
 }
 
-/// What a host does to a pair.
-#[derive(Clone, Copy)]
-pub enum Act {
-    /// Zeros in all of both slots.
-    Zero(usize),
-    /// The first write, finished.
-    First(usize),
-}
-
-impl Act {
-    pub fn pair(self) -> usize {
-        match self {
-            Self::Zero(at) | Self::First(at) => at,
-        }
-    }
-}
-
-/// Zeros in pair 0, and then in the pages, in any order.
-pub fn zeros(rng: &mut Rng, pairs: usize) -> Vec<Act> {
-    [0].into_iter().chain(pages(rng, pairs)).map(Act::Zero).collect()
-}
-
-/// First writes of the pages, in any order, and then of pair 0.
-pub fn first_writes(rng: &mut Rng, pairs: usize) -> Vec<Act> {
-    pages(rng, pairs).into_iter().chain([0]).map(Act::First).collect()
-}
-
-fn pages(rng: &mut Rng, pairs: usize) -> Vec<usize> {
-    let mut pages: Vec<usize> = (1..pairs).collect();
-    rng.shuffle(&mut pages);
-    pages
-}
-
-/// What a first write that was cut left.
-pub struct Cut {
-    pub left: Left,
-    /// The slot's status, as it is answered and as the bytes say.
-    pub status: u32,
-    pub expected: u32,
-    pub accident: Option<Accident>,
+/// The pairs that are written first: the pages, in any order, and then pair 0.
+pub fn pairs_written(rng: &mut Rng, pairs: usize) -> Vec<usize> {
+    let mut written: Vec<usize> = (1..pairs).collect();
+    rng.shuffle(&mut written);
+    written.push(0);
+    written
 }
 
 pub struct Creation<'a> {
-    tried: &'a dyn Implementation,
+    pub tried: &'a dyn Implementation,
     pub pairs: Vec<Pair>,
-    /// The verdict on each where pair 0 is Lost; `None` after an accident, of which nothing is said.
-    verdicts: Vec<Option<[u8; VERDICT]>>,
-    frames: Vec<u8>,
-}
-
-fn has_winner(verdict: &Option<[u8; VERDICT]>) -> bool {
-    verdict.is_some_and(|verdict| verdict[1] != 0)
+    /// What was written to each slot since it was zeros, and what it holds.
+    written: Vec<[Vec<Whole>; SLOTS]>,
+    pub held: Vec<[Held; SLOTS]>,
+    pub frames: Vec<u8>,
+    /// The slot that wins in each pair of the older store; none where pair 0 has no record any more.
+    pub older: Vec<usize>,
 }
 
 impl<'a> Creation<'a> {
     /// In the place of an older store.
-    pub fn over(tried: &'a dyn Implementation, store: Vec<Pair>) -> Self {
-        let frames = unread(store.iter().map(|pair| pair.operator));
-        let verdicts = store.iter().map(|pair| Some(verdict(pair.winner, NOTHING))).collect();
-        let mut creation = Self { tried, pairs: store, verdicts, frames };
-        (0..creation.pairs.len()).for_each(|at| creation.fill_frames(at));
+    pub fn over(tried: &'a dyn Implementation, pairs: Vec<Pair>) -> Self {
+        let written = pairs.iter().map(|pair| pair.slots.each_ref().map(|slot| vec![Whole::of(slot)])).collect();
+        let held = pairs.iter().map(|_| [Held::Blank, Held::Blank]).collect();
+        let frames = unread(pairs.iter().map(|pair| pair.operator));
+        let mut creation = Self { tried, pairs, written, held, frames, older: Vec::new() };
+        for at in 0..creation.pairs.len() {
+            (0..SLOTS).for_each(|slot| creation.hold(at, slot));
+        }
+        creation.older = creation.winners();
         creation
     }
 
     /// In slots that are Blank, with what they held behind their headers.
-    pub fn in_blank_slots(tried: &'a dyn Implementation, store: Vec<Pair>) -> Self {
-        let mut creation = Self::over(tried, store);
-        (0..creation.pairs.len()).for_each(|at| creation.blank(at, HEADER));
+    pub fn in_blank_slots(tried: &'a dyn Implementation, mut pairs: Vec<Pair>) -> Self {
+        pairs.iter_mut().flat_map(|pair| &mut pair.slots).for_each(|slot| slot[..HEADER].fill(0));
+        Self::over(tried, pairs)
+    }
+
+    /// In the place of an older store of which a write was cut, without an accident.
+    pub fn over_cut(rng: &mut Rng, tried: &'a dyn Implementation, mut pairs: Vec<Pair>) -> Self {
+        let write = random_write(rng, tried, Medium::Sectors, &mut pairs);
+        let tear = Tear::random(rng, write.new.len(), HEADER + write.record.len());
+        let mut creation = Self::over(tried, pairs);
+        let before = creation.pairs[write.pair].slots[write.slot].clone();
+        creation.write(&write, Some(tear));
+        if creation.is_accident(write.pair, write.slot) {
+            creation.put(write.pair, write.slot, before);
+        }
+        creation.older = creation.winners();
         creation
     }
 
-    /// In the place of an older store of which a write was cut.
-    pub fn over_cut(rng: &mut Rng, tried: &'a dyn Implementation, mut store: Vec<Pair>) -> Self {
-        let write = random_write(rng, tried, Medium::Sectors, &mut store);
-        let mut creation = Self::over(tried, store);
-        creation.cut(&write, Tear::random(rng, write.new.len(), HEADER + write.record.len()));
-        creation
-    }
-
-    /// A page would be in flight, had pair 0 a record.
-    pub fn has_torn_page(&self) -> bool {
-        self.verdicts[1..].iter().flatten().any(|verdict| verdict.contains(&DAMAGE) && *verdict != LOST)
-    }
-
-    fn fill_frames(&mut self, at: usize) {
-        for slot in 0..2 {
-            self.fill_frame(at, slot);
+    fn put(&mut self, at: usize, slot: usize, stored: Vec<u8>) {
+        self.pairs[at].slots[slot] = stored;
+        self.hold(at, slot);
+        if self.winner(0).is_none() {
+            self.older.clear();
         }
     }
 
-    fn fill_frame(&mut self, at: usize, slot: usize) -> u32 {
+    /// Reads a slot anew.
+    fn hold(&mut self, at: usize, slot: usize) {
         let pair = &self.pairs[at];
-        fill_frame(self.tried, &mut self.frames, (at, slot), &pair.at, &pair.slots[slot])
+        let stored = &pair.slots[slot];
+        self.held[at][slot] = Held::of(self.tried, stored, &self.written[at][slot]);
+        fill_frame(self.tried, &mut self.frames, (at, slot), &pair.at, stored);
     }
 
-    pub fn act(&mut self, rng: &mut Rng, act: Act) {
-        match act {
-            Act::Zero(at) => self.blank(at, self.pairs[at].slots[0].len()),
-            Act::First(at) => {
-                let write = self.first_write(rng, at);
-                self.finish(&write);
-            }
+    pub fn is_accident(&self, at: usize, slot: usize) -> bool {
+        matches!(self.held[at][slot], Held::Accident)
+    }
+
+    /// The slot that wins in a pair.
+    pub fn winner(&self, at: usize) -> Option<usize> {
+        let slots = self.held[at].iter().enumerate();
+        slots.filter_map(|(slot, held)| Some((held.whole()?.generation(), slot))).max().map(|(_, slot)| slot)
+    }
+
+    /// The slots that win, up to the first pair without a record.
+    fn winners(&self) -> Vec<usize> {
+        (0..self.pairs.len()).map_while(|at| self.winner(at)).collect()
+    }
+
+    /// Every pair has a record.
+    pub fn is_whole(&self) -> bool {
+        self.winners().len() == self.pairs.len()
+    }
+
+    /// Writes zeros to a slot.
+    pub fn zero(&mut self, at: usize, slot: usize) {
+        self.written[at][slot].clear();
+        self.put(at, slot, vec![0; self.pairs[at].slots[slot].len()]);
+    }
+
+    /// Writes all of a slot, or a part of it. Where that is the record, the pair has it.
+    pub fn write(&mut self, write: &Write, tear: Option<Tear>) {
+        let Write { pair: at, slot, new, .. } = write;
+        let stored = tear.map_or_else(|| new.clone(), |tear| tear.left(new, &self.pairs[*at].slots[*slot]));
+        self.written[*at][*slot].push(Whole::of(new));
+        self.put(*at, *slot, stored);
+        let [_, b] = &self.held[*at];
+        let Held::Whole(whole) = &self.held[*at][*slot] else { return };
+        let pair = &mut self.pairs[*at];
+        if pair.slots[*slot][..HEADER] == new[..HEADER] {
+            pair.winner = *slot;
+            pair.blank = matches!(b, Held::Blank);
+            pair.generation = whole.generation();
+            pair.number = whole.number();
+            pair.own = whole.own();
+            pair.previous = whole.previous();
+            pair.record = whole.record.clone();
         }
     }
 
-    /// So many zeros in both slots, the header at least.
-    fn blank(&mut self, at: usize, zeros: usize) {
-        let pair = &mut self.pairs[at];
-        pair.slots.iter_mut().for_each(|slot| slot[..zeros].fill(0));
-        (pair.blank, pair.generation) = (true, 0);
-        self.verdicts[at] = Some(LOST);
-        self.fill_frames(at);
-    }
-
-    fn with_record(&self) -> impl Iterator<Item = &Pair> {
-        let both = self.pairs.iter().zip(&self.verdicts);
-        both.filter(|(_, verdict)| has_winner(verdict)).map(|(pair, _)| pair)
+    /// Each pair's records. Where a first write is planned each slot is blank or has one.
+    fn records(&self) -> impl Iterator<Item = (&Pair, &Whole)> {
+        let pairs = self.pairs.iter().zip(&self.held);
+        pairs.flat_map(|(pair, held)| held.iter().filter_map(move |held| Some((pair, held.whole()?))))
     }
 
     /// One above the numbers of the pairs of a pair's operator.
     fn next_number(&self, at: usize) -> Expected<u64> {
-        let own = self.with_record().filter(|pair| pair.operator == self.pairs[at].operator);
-        above(own.map(|pair| pair.number))
+        let own = self.records().filter(|(pair, _)| pair.operator == self.pairs[at].operator);
+        above(own.map(|(_, whole)| whole.number()))
     }
 
     fn plan(&self, at: usize) -> Expected<Plan> {
@@ -184,96 +177,8 @@ impl<'a> Creation<'a> {
         let mark = rng.one_in(2);
         let record = pair.kind.record(rng, fitting_entries(pair.slots[0].len()), Some(&pair.record), mark);
         let (new, _) = self.tried.encode(&pair.at.slot(plan.slot as u32), &plan.version(new_written(rng)), &record);
-        let above_all = self.with_record().all(|pair| pair.number < plan.number);
+        let above_all = self.records().all(|(_, whole)| whole.number() < plan.number);
         let mark = mark && at == 0;
         Write { pair: at, slot: plan.slot, record, marked: false, mark, same_checksum: false, above_all, new }
-    }
-
-    /// Writes all of a slot.
-    pub fn finish(&mut self, write: &Write) {
-        self.put(write, write.new.clone(), Left::New);
-    }
-
-    /// Writes a part of it.
-    pub fn cut(&mut self, write: &Write, tear: Tear) -> Cut {
-        let mut cutting = Cutting::new(self.tried, &self.pairs, write);
-        cutting.tear(tear);
-        let left = cutting.left();
-        let of_pair = if write.pair == 0 { Accident::FirstVolume } else { Accident::FirstPage };
-        let accident = cutting.accident(left).map(|_| of_pair);
-        let pair = &self.pairs[write.pair];
-        let slot = tear.left(&write.new, &pair.slots[write.slot]);
-        let magic = slot[MAGIC] == write.new[MAGIC];
-        let expected = if left == Left::TornHeader && !magic { BAD_MAGIC } else { left.answered(pair.blank).0 };
-        let status = self.put(write, slot, left);
-        if accident.is_some() {
-            self.verdicts[write.pair] = None;
-        }
-        Cut { left, status, expected: expected.into(), accident }
-    }
-
-    /// What is left is in the slot, whose status is answered; where it is the record, the pair has that.
-    fn put(&mut self, write: &Write, slot: Vec<u8>, left: Left) -> u32 {
-        let has_winner = has_winner(&self.verdicts[write.pair]);
-        let pair = &mut self.pairs[write.pair];
-        pair.slots[write.slot] = slot;
-        if left == Left::New {
-            let whole = Whole::of(&write.new);
-            self.verdicts[write.pair] = Some(verdict(write.slot, NOTHING));
-            pair.winner = write.slot;
-            pair.blank &= write.slot == 0;
-            pair.generation = whole.generation();
-            pair.number = whole.number();
-            pair.own = whole.own();
-            pair.previous = whole.previous();
-            pair.record = whole.record;
-        } else if has_winner {
-            self.verdicts[write.pair] = Some(beside_lost(pair.winner, left.answered(pair.blank).1));
-        }
-        self.fill_frame(write.pair, write.slot)
-    }
-
-    /// Every pair has a record.
-    pub fn is_whole(&self) -> bool {
-        self.verdicts.iter().all(has_winner)
-    }
-
-    /// What the judge answers under either mark where pair 0 is Lost; `None` after an accident.
-    pub fn judged(&self) -> Option<Judged> {
-        let verdicts: Option<Vec<[u8; VERDICT]>> = self.verdicts.iter().copied().collect();
-        let winners = self.with_record().map(|pair| &pair.slots[pair.winner]);
-        let judgement = [0, 0, 0, 0, 0, owners_differ(winners).into()];
-        Some(Judged { refusal: 0, verdicts: verdicts?.concat(), judgement })
-    }
-
-    /// Under each mark.
-    pub fn judged_found(&self) -> [Judged; 2] {
-        [false, true].map(|mark| self.tried.judge(&self.frames, mark))
-    }
-
-    /// The first promise that these answers do not keep.
-    pub fn broken(&self, found: &[Judged; 2]) -> Option<&'static str> {
-        let none = |value: usize| found.iter().all(|judged| judged.refusal == 0 && judged.judgement[value] == 0);
-        let kept = [(NOT_WRITABLE, none(2)), (NONE_NAMED, none(0))];
-        let broken = kept.into_iter().find(|(_, kept)| !kept).map(|(promise, _)| promise);
-        broken.filter(|_| !self.is_whole())
-    }
-
-    /// The store, and the pair that something was done to last.
-    pub fn fields(&self, at: usize) -> Fields {
-        let pair = &self.pairs[at];
-        vec![
-            ("pairs", number(self.pairs.len())),
-            ("pair", number(at)),
-            ("operator", number(pair.operator)),
-            ("volume0", number(pair.at.volume0)),
-            ("volume1", number(pair.at.volume1)),
-            ("object_id", number(pair.at.object_id)),
-            ("slot_offset", number(pair.at.offsets[0])),
-            ("log2_slot_size", number(pair.at.log2_slot_size)),
-            ("slot A", hex(&pair.slots[0])),
-            ("slot B", hex(&pair.slots[1])),
-            ("frames", hex(&self.frames)),
-        ]
     }
 }

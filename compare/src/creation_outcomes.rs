@@ -1,11 +1,10 @@
 //! What the creations of a trial come to, and which of it a trial must meet.
 
-use crate::answers::Left;
 use crate::counts::{Answer, Function};
-use crate::creation::Cut;
+use crate::creation::Creation;
+use crate::creation_slots::Held;
 use crate::cut_outcomes::{operators_answer, COUNTS_OF_OPERATORS};
 use crate::cut_store::{Pair, Write};
-use crate::frames::BAD_MAGIC;
 use crate::part::Run;
 use crate::planning::{number_written, NUMBERS_WRITTEN};
 use crate::sample::{HEADER, MAGIC};
@@ -64,27 +63,30 @@ pub fn count_creation(run: &mut Run, pairs: &[Pair], before: &'static str) {
     run.counts.add_part(OPERATORS, operators_answer(pairs.iter().map(|pair| pair.operator)));
 }
 
-pub fn count_first(run: &mut Run, write: &Write, tear: Option<Tear>) {
-    let how = match tear {
+fn how(tear: Option<Tear>) -> Answer {
+    Answer::Decision(match tear {
         None => FINISHED,
         Some(Tear::Ascending(bytes)) if (1..MAGIC.end).contains(&bytes) => IN_MAGIC,
         Some(Tear::Ascending(_)) => BY_BYTES,
         Some(Tear::Sectors(_)) => BY_SECTORS,
-    };
-    run.counts.add_part(WRITES[usize::from(write.pair > 0)], Answer::Decision(how));
+    })
+}
+
+pub fn count_first(run: &mut Run, write: &Write, tear: Option<Tear>) {
+    run.counts.add_part(WRITES[usize::from(write.pair > 0)], how(tear));
     run.counts.add_part(NUMBER, number_written(write.above_all));
 }
 
-/// What a cut left; an accident is counted as one.
-pub fn count_cut(run: &mut Run, write: &Write, tear: Tear, cut: &Cut) {
-    let left = match cut.left {
-        _ if cut.accident.is_some() => return,
-        Left::New if tear.reached(HEADER + write.record.len()) => NEW,
-        Left::New => NEW_EARLY,
-        Left::TornPayload => PAYLOAD_TORN,
-        Left::TornHeader if cut.expected == BAD_MAGIC.into() => MAGIC_BROKEN,
-        Left::TornHeader => HEADER_TORN,
-        _ => NOTHING,
+/// What a cut of a first write left; an accident is counted as one.
+pub fn count_cut(run: &mut Run, creation: &Creation, write: &Write, tear: Tear) {
+    let left = match &creation.held[write.pair][write.slot] {
+        Held::Accident => return,
+        Held::Whole(_) if tear.reached(HEADER + write.record.len()) => NEW,
+        Held::Whole(_) => NEW_EARLY,
+        Held::TornPayload(_) => PAYLOAD_TORN,
+        Held::BrokenMagic => MAGIC_BROKEN,
+        Held::TornHeader(_) => HEADER_TORN,
+        Held::Blank => NOTHING,
     };
     run.counts.add_part(CUTS[usize::from(write.pair > 0)], Answer::Decision(left));
 }

@@ -1,18 +1,19 @@
-//! The steps of a creation at random: what is asked before a first write and answered after it is held to docs/FORMAT.md and
-//! to what is promised. After each cut the creation is begun anew.
+//! The steps of a creation at random: what is asked before a first write and answered after it, and after zeros, is held to
+//! docs/FORMAT.md and to what is promised. After each cut the creation is begun anew.
 
-use crate::creation::{first_writes, zeros, Creation};
+use crate::creation::{pairs_written, slots_zeroed, Creation};
+use crate::creation_answers::Answered;
 use crate::creation_outcomes::{count_creation, count_cut, count_first, AGAIN, BLANK, OVER, OVER_TORN};
 use crate::cut_store::{Pair, Write};
+use crate::history_pair::Accident;
 use crate::history_steps::{planned_fields, Steps};
 use crate::history_writes::random_store;
-use crate::part::{number, Checked, Mismatch, Report};
+use crate::part::{Checked, Mismatch, Report};
 use crate::sample::HEADER;
 use crate::tear::Tear;
 
 const PLANNED: &str = "what to write first";
-const STATUS: &str = "status of a first write that was cut";
-const JUDGED: &str = "judgement of a store that is being created, under either mark";
+const ANSWERED: &str = "answers of a store that is being created, under either mark";
 
 /// How many first writes of a creation are cut at most.
 const MOST_CUTS: usize = 2;
@@ -74,44 +75,40 @@ impl Steps {
     }
 
     fn zero(&mut self, creation: &mut Creation) -> Checked {
-        for act in zeros(&mut self.run.rng, creation.pairs.len()) {
-            creation.act(&mut self.run.rng, act);
-            self.unfinished(creation, act.pair())?;
+        for (at, slot) in slots_zeroed(&mut self.run.rng, creation.pairs.len()) {
+            creation.zero(at, slot);
+            self.answered(creation, at)?;
         }
         Ok(())
     }
 
     /// The first write of every pair, or until that of this one is cut.
     fn write_pairs(&mut self, creation: &mut Creation, cut: Option<usize>) -> Result<Came, Mismatch> {
-        for act in first_writes(&mut self.run.rng, creation.pairs.len()) {
-            let at = act.pair();
+        for at in pairs_written(&mut self.run.rng, creation.pairs.len()) {
             self.planned(creation, at)?;
             let write = creation.first_write(&mut self.run.rng, at);
             if cut == Some(at) {
                 return self.cut(creation, &write);
             }
-            creation.finish(&write);
+            creation.write(&write, None);
             count_first(&mut self.run, &write, None);
-            self.unfinished(creation, at)?;
+            self.answered(creation, at)?;
         }
         Ok(Came::Whole)
     }
 
     fn cut(&mut self, creation: &mut Creation, write: &Write) -> Result<Came, Mismatch> {
         let tear = Tear::anywhere(&mut self.run.rng, write.new.len(), HEADER + write.record.len());
-        let cut = creation.cut(write, tear);
+        creation.write(write, Some(tear));
         count_first(&mut self.run, write, Some(tear));
-        count_cut(&mut self.run, write, tear, &cut);
-        match cut.accident {
-            Some(accident) if self.accidents[accident as usize].add() => return Ok(Came::Accident),
-            Some(_) => (),
-            None => self.run.check(STATUS, cut.status == cut.expected, || Report {
-                inputs: creation.fields(write.pair),
-                expected: vec![("status", number(cut.expected))],
-                found: vec![("status", number(cut.status))],
-            })?,
+        count_cut(&mut self.run, creation, write, tear);
+        if creation.is_accident(write.pair, write.slot) {
+            let accident = if write.pair == 0 { Accident::FirstVolume } else { Accident::FirstPage };
+            if self.accidents[accident as usize].add() {
+                return Ok(Came::Accident);
+            }
         }
-        self.unfinished(creation, write.pair)?;
+        self.answered(creation, write.pair)?;
         Ok(if creation.is_whole() { Came::Whole } else { Came::Cut })
     }
 
@@ -129,22 +126,18 @@ impl Steps {
         Ok(())
     }
 
-    /// What is answered until every pair has a record. `at` is the pair that something was done to.
-    fn unfinished(&self, creation: &Creation, at: usize) -> Checked {
-        if creation.is_whole() {
-            return Ok(());
-        }
-        let found = creation.judged_found();
-        let expected = creation.judged();
+    /// What is answered to the store. `at` is the pair that something was done to.
+    fn answered(&self, creation: &Creation, at: usize) -> Checked {
+        let (expected, found) = (creation.expected(), creation.found());
         let report = || Report {
             inputs: creation.fields(at),
-            expected: expected.iter().flat_map(|judged| judged.fields()).collect(),
-            found: found.iter().flat_map(|judged| judged.fields()).collect(),
+            expected: expected.iter().flat_map(Answered::fields).collect(),
+            found: found.fields(),
         };
-        if let Some(promise) = creation.broken(&found) {
+        if let Some(promise) = creation.broken(&found.judged) {
             self.run.check(promise, false, report)?;
         }
-        let other = expected.as_ref().is_some_and(|expected| found.iter().any(|judged| judged != expected));
-        self.run.check(JUDGED, !other, report)
+        let other = expected.as_ref().is_some_and(|expected| *expected != found);
+        self.run.check(ANSWERED, !other, report)
     }
 }

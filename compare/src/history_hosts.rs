@@ -1,6 +1,7 @@
 //! Hosts that write wrongly: each must be seen to break a promise, so the promises can be seen to be broken.
 
-use crate::creation::{first_writes, zeros, Act, Creation, NOT_WRITABLE};
+use crate::creation::{pairs_written, slots_zeroed, Creation, SLOTS};
+use crate::creation_answers::{NOT_WRITABLE, OLDER_READ};
 use crate::cut_records::clean_mark;
 use crate::cut_store;
 use crate::history::History;
@@ -17,6 +18,13 @@ use std::collections::BTreeMap;
 /// How many histories each host writes, and how many writes each has at most.
 const HISTORIES: usize = 200;
 const MOST_WRITES: usize = 40;
+
+/// What a host does in a creation, each in all of a slot: it zeroes one of a pair, or writes a pair first.
+#[derive(Clone, Copy)]
+enum Act {
+    Zero(usize, usize),
+    First(usize),
+}
 
 struct Host {
     name: &'static str,
@@ -100,7 +108,7 @@ const HOSTS: &[Host] = &[
     Host::new("hands over the mark of the older record", COUNTS, Fault::Mark(mark_of_the_older)),
     // With pair 0's record the others are lost pages of a store, which is writable without them.
     Host::new("writes pair 0 first", NOT_WRITABLE, Fault::Order(volume_first)),
-    Host::new("zeroes the pages before pair 0", NOT_WRITABLE, Fault::Order(pages_zeroed_first)),
+    Host::new("zeroes the pages before pair 0", OLDER_READ, Fault::Order(pages_zeroed_first)),
 ];
 
 fn any_pair(rng: &mut Rng, history: &History) -> usize {
@@ -139,15 +147,21 @@ fn mark_of_the_older(history: &History) -> bool {
 }
 
 fn volume_first(rng: &mut Rng, pairs: usize) -> Vec<Act> {
-    let mut writes = first_writes(rng, pairs);
-    writes.rotate_right(1);
-    [zeros(rng, pairs), writes].concat()
+    let zeros = slots_zeroed(rng, pairs);
+    let mut written = pairs_written(rng, pairs);
+    written.rotate_right(1);
+    acts(zeros, written)
 }
 
 fn pages_zeroed_first(rng: &mut Rng, pairs: usize) -> Vec<Act> {
-    let mut zeros = zeros(rng, pairs);
-    zeros.rotate_left(1);
-    [zeros, first_writes(rng, pairs)].concat()
+    let mut zeros = slots_zeroed(rng, pairs);
+    zeros.rotate_left(SLOTS);
+    acts(zeros, pairs_written(rng, pairs))
+}
+
+fn acts(zeros: Vec<(usize, usize)>, written: Vec<usize>) -> Vec<Act> {
+    let zeros = zeros.into_iter().map(|(at, slot)| Act::Zero(at, slot));
+    zeros.chain(written.into_iter().map(Act::First)).collect()
 }
 
 /// The trial of these hosts.
@@ -192,7 +206,13 @@ impl Hosts {
         let acts = order(&mut self.rng, store.len());
         let mut creation = Creation::over(&Library, store);
         acts.into_iter().find_map(|act| {
-            creation.act(&mut self.rng, act);
+            match act {
+                Act::Zero(at, slot) => creation.zero(at, slot),
+                Act::First(at) => {
+                    let write = creation.first_write(&mut self.rng, at);
+                    creation.write(&write, None);
+                }
+            }
             creation.broken(&creation.judged_found())
         })
     }
