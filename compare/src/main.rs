@@ -151,7 +151,7 @@ const QUICK_CUTS: Cuts = Cuts { ascending: 1_000_000, sectors: 40_000, weak_asce
 const LONG_CUTS: Cuts =
     Cuts { ascending: 40_000_000, sectors: 12_000_000, weak_ascending: 4_000_000, weak_sectors: 4_000_000 };
 
-const QUICK_HISTORIES: Histories = Histories { random: 50_000, weak: 40_000, made: 10_000 };
+const QUICK_HISTORIES: Histories = Histories { random: 50_000, weak: 80_000, made: 10_000 };
 const LONG_HISTORIES: Histories = Histories { random: 1_000_000, weak: 1_000_000, made: 1_000_000 };
 
 const QUICK_RUNS: u64 = 300;
