@@ -114,10 +114,15 @@ impl<'a> Creation<'a> {
         self.winners().len() == self.pairs.len()
     }
 
-    /// Writes zeros to a slot.
-    pub fn zero(&mut self, at: usize, slot: usize) {
-        self.written[at][slot].clear();
-        self.put(at, slot, vec![0; self.pairs[at].slots[slot].len()]);
+    /// Writes zeros to a slot, or a part of them.
+    pub fn zero(&mut self, at: usize, slot: usize, tear: Option<Tear>) {
+        let before = &self.pairs[at].slots[slot];
+        let zeros = vec![0; before.len()];
+        let stored = tear.map_or_else(|| zeros.clone(), |tear| tear.left(&zeros, before));
+        if stored == zeros {
+            self.written[at][slot].clear();
+        }
+        self.put(at, slot, stored);
     }
 
     /// Writes all of a slot, or a part of it. Where that is the record, the pair has it.

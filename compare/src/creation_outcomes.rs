@@ -44,6 +44,19 @@ const OF_CUTS: &[Answer] = &[
     Answer::Decision(NEW),
 ];
 
+/// In one slot.
+const ZEROS: [&str; 2] = ["zeros in pair 0", "zeros in a page"];
+const ZEROED: [&str; 2] = ["zeros in pair 0, as cut", "zeros in a page, as cut"];
+const KEPT: &str = "the header as it was";
+/// The record of pair 0 lies in its header's sector.
+const OF_ZEROED: &[Answer] = &[Answer::Decision(KEPT), Answer::Decision(NOTHING), Answer::Decision(MAGIC_BROKEN)];
+
+const RECORDS: &str = "zeros in pair 0, cut: it has";
+const BOTH: &str = "both records";
+const NEWER: &str = "the newer record alone";
+const OLDER: &str = "the older record alone";
+const NONE: &str = "no record";
+
 /// Of histories that begin at random.
 pub const CREATIONS: &[Function] = &[
     Function::part(
@@ -56,6 +69,15 @@ pub const CREATIONS: &[Function] = &[
     Function::part(WRITES[1], OF_WRITES),
     Function::part(CUTS[0], OF_CUTS),
     Function::part(CUTS[1], OF_CUTS),
+    Function::part(ZEROS[0], OF_WRITES),
+    Function::part(ZEROS[1], OF_WRITES),
+    Function::part(ZEROED[0], OF_ZEROED),
+    Function::part(ZEROED[1], OF_ZEROED),
+    Function::part(ZEROED[1], &[Answer::Decision(PAYLOAD_TORN)]),
+    Function::part(
+        RECORDS,
+        &[Answer::Decision(BOTH), Answer::Decision(NEWER), Answer::Decision(OLDER), Answer::Decision(NONE)],
+    ),
 ];
 
 pub fn count_creation(run: &mut Run, pairs: &[Pair], before: &'static str) {
@@ -89,4 +111,30 @@ pub fn count_cut(run: &mut Run, creation: &Creation, write: &Write, tear: Tear) 
         Held::Blank => NOTHING,
     };
     run.counts.add_part(CUTS[usize::from(write.pair > 0)], Answer::Decision(left));
+}
+
+pub fn count_zeros(run: &mut Run, at: usize, tear: Option<Tear>) {
+    run.counts.add_part(ZEROS[usize::from(at > 0)], how(tear));
+}
+
+/// What a cut of zeros left in a slot, and of pair 0 by then; an accident is counted as one.
+pub fn count_zeroed(run: &mut Run, creation: &Creation, (at, slot): (usize, usize), was_whole: bool) {
+    let left = match creation.held[at][slot] {
+        Held::Accident => return,
+        Held::Blank => NOTHING,
+        Held::BrokenMagic => MAGIC_BROKEN,
+        Held::TornPayload(_) if was_whole => PAYLOAD_TORN,
+        _ => KEPT,
+    };
+    run.counts.add_part(ZEROED[usize::from(at > 0)], Answer::Decision(left));
+    if at == 0 {
+        let records = creation.held[0].each_ref().map(|held| held.whole().is_some());
+        let has = match records {
+            [true, true] => BOTH,
+            [false, false] => NONE,
+            _ if records[creation.pairs[0].winner] => NEWER,
+            _ => OLDER,
+        };
+        run.counts.add_part(RECORDS, Answer::Decision(has));
+    }
 }

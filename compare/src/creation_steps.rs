@@ -1,21 +1,24 @@
 //! The steps of a creation at random: what is asked before a first write and answered after it, and after zeros, is held to
 //! docs/FORMAT.md and to what is promised. After each cut the creation is begun anew.
 
-use crate::creation::{pairs_written, slots_zeroed, Creation};
+use crate::creation::{pairs_written, slots_zeroed, Creation, SLOTS};
 use crate::creation_answers::Answered;
-use crate::creation_outcomes::{count_creation, count_cut, count_first, AGAIN, BLANK, OVER, OVER_TORN};
+use crate::creation_outcomes::{
+    count_creation, count_cut, count_first, count_zeroed, count_zeros, AGAIN, BLANK, OVER, OVER_TORN,
+};
 use crate::cut_store::{Pair, Write};
 use crate::history_pair::Accident;
 use crate::history_steps::{planned_fields, Steps};
 use crate::history_writes::random_store;
 use crate::part::{Checked, Mismatch, Report};
+use crate::rng::Rng;
 use crate::sample::HEADER;
 use crate::tear::Tear;
 
 const PLANNED: &str = "what to write first";
 const ANSWERED: &str = "answers of a store that is being created, under either mark";
 
-/// How many first writes of a creation are cut at most.
+/// How many first writes of a creation are cut at most, and how often at most zeros are before them.
 const MOST_CUTS: usize = 2;
 
 /// What a creation came to.
@@ -50,7 +53,7 @@ impl Steps {
     /// In blank slots, or in the place of an older store, with zeros by now.
     fn begun(&mut self) -> Result<Creation<'static>, Mismatch> {
         let store = random_store(&mut self.run.rng, self.tried);
-        if self.run.rng.one_in(2) {
+        if self.run.rng.one_in(4) {
             count_creation(&mut self.run, &store, BLANK);
             return Ok(Creation::in_blank_slots(self.tried, store));
         }
@@ -74,12 +77,41 @@ impl Steps {
         }
     }
 
+    /// Zeros in every slot, begun anew after each cut.
     fn zero(&mut self, creation: &mut Creation) -> Checked {
-        for (at, slot) in slots_zeroed(&mut self.run.rng, creation.pairs.len()) {
-            creation.zero(at, slot);
+        for _ in 0..self.run.rng.below(MOST_CUTS + 1) {
+            self.zero_slots(creation, true)?;
+        }
+        self.zero_slots(creation, false)
+    }
+
+    /// Zeros in every slot, or until those in one are cut, often in one of pair 0.
+    fn zero_slots(&mut self, creation: &mut Creation, cut: bool) -> Checked {
+        let slots = slots_zeroed(&mut self.run.rng, creation.pairs.len());
+        let among = if self.run.rng.one_in(2) { SLOTS } else { slots.len() };
+        let cut = cut.then(|| self.run.rng.below(among));
+        for (place, (at, slot)) in slots.into_iter().enumerate() {
+            if cut == Some(place) {
+                return self.cut_zeros(creation, at, slot);
+            }
+            creation.zero(at, slot, None);
+            count_zeros(&mut self.run, at, None);
             self.answered(creation, at)?;
         }
         Ok(())
+    }
+
+    fn cut_zeros(&mut self, creation: &mut Creation, at: usize, slot: usize) -> Checked {
+        let Pair { slots, record, .. } = &creation.pairs[at];
+        let tear = zeros_tear(&mut self.run.rng, slots[slot].len(), HEADER + record.len());
+        let was_whole = creation.held[at][slot].whole().is_some();
+        creation.zero(at, slot, Some(tear));
+        count_zeros(&mut self.run, at, Some(tear));
+        count_zeroed(&mut self.run, creation, (at, slot), was_whole);
+        if creation.is_accident(at, slot) {
+            self.accidents[Accident::Zeroed as usize].add();
+        }
+        self.answered(creation, at)
     }
 
     /// The first write of every pair, or until that of this one is cut.
@@ -139,5 +171,14 @@ impl Steps {
         }
         let other = expected.as_ref().is_some_and(|expected| *expected != found);
         self.run.check(ANSWERED, !other, report)
+    }
+}
+
+/// Any cut of zeros; often all sectors but the first are written, so that a header stands over another payload.
+fn zeros_tear(rng: &mut Rng, size: usize, end: usize) -> Tear {
+    if rng.one_in(3) {
+        Tear::Sectors(Tear::all_sectors(size) ^ 1)
+    } else {
+        Tear::anywhere(rng, size, end)
     }
 }

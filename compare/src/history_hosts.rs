@@ -207,7 +207,7 @@ impl Hosts {
         let mut creation = Creation::over(&Library, store);
         acts.into_iter().find_map(|act| {
             match act {
-                Act::Zero(at, slot) => creation.zero(at, slot),
+                Act::Zero(at, slot) => creation.zero(at, slot, None),
                 Act::First(at) => {
                     let write = creation.first_write(&mut self.rng, at);
                     creation.write(&write, None);

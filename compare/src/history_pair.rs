@@ -60,6 +60,8 @@ pub enum Accident {
     FirstPage,
     /// In pair 0's first write.
     FirstVolume,
+    /// Of a page's payload, while pair 0 has no record.
+    Zeroed,
 }
 
 impl Accident {
@@ -71,6 +73,7 @@ impl Accident {
         Self::SameChecksum,
         Self::FirstPage,
         Self::FirstVolume,
+        Self::Zeroed,
     ];
 
     pub fn name(self) -> &'static str {
@@ -82,12 +85,13 @@ impl Accident {
             Self::SameChecksum => "checksum that the winner has as its previous one",
             Self::FirstPage => "header or payload of a page's first write",
             Self::FirstVolume => "header or payload of pair 0's first write",
+            Self::Zeroed => "payload of a page with some zeros",
         }
     }
 
     /// What is promised holds after it.
     pub fn is_harmless(self) -> bool {
-        matches!(self, Self::OldPayload | Self::SameChecksum | Self::FirstPage)
+        matches!(self, Self::OldPayload | Self::SameChecksum | Self::FirstPage | Self::Zeroed)
     }
 }
 
