@@ -592,17 +592,24 @@ uint32_t sio_judge(const uint8_t *frames, size_t frames_len, uint8_t clean, uint
  * They say what to write, not whether: that is the protocol's. What a pair is, sio_decide says of the two parts of its frame,
  * and not the judge, whose Lost takes in Empty and Fork.
  *
- * Promised: of a sound store whose clean mark is 0, a write of what sio_next_write encodes, to the slot that it names, of a
- * payload that the pair's decoder accepts, cut after any number of bytes but one to seven, or with any of its aligned sectors
- * of 512 bytes whole and the others not begun, and without an accident (docs/FORMAT.md, "The sound store and the cut"), leaves
- * a store that is judged writable, and of every pair the last record that was written whole. A write that is finished leaves
- * a sound store.
+ * Promised: of a sound store, a write of what sio_next_write encodes, of pair 0 where the clean mark is 1 and of any pair where
+ * it is 0, to the slot that it names, of a payload that the pair's decoder accepts, cut after any number of bytes but one to
+ * seven, or with any of its aligned sectors of 512 bytes whole and the others not begun, and without an accident
+ * (docs/FORMAT.md, "The sound store and the cut"), leaves a store that is judged writable, and of every pair the last record
+ * that was written whole. A write that is finished leaves a sound store.
  *
- * Promised of the writes after a cut: where a host begins with such a store, writes as sio_plan_heal says wherever it names a
- * slot and else as sio_plan_write says, and sets no clean mark, then after each write, finished or cut in either way without an
- * accident (docs/FORMAT.md, "A history of writes"), the store is judged writable, and of every pair the record that is read is
- * the last one finished or one begun after it, whole. A write that heals may be cut too, any number of times. Not covered: what
- * follows a write that sets the clean mark.
+ * Promised of the life of a store: where a host begins with a sound store, hands over the clean mark of the record that it reads
+ * from pair 0, writes as sio_plan_heal says wherever it names a slot and else as sio_plan_write says, and no pair but 0 while
+ * that mark is 1, then after each write, finished or cut in either way without an accident (docs/FORMAT.md, "The life of a
+ * store"), the store is judged writable, and of every pair the record that is read is the last one finished or one begun after
+ * it, whole. Writes of pair 0 set the mark and clear it, finished or cut, so the store is closed and opened any number of
+ * times; where no slot is named the mark counts as it was read, and after a finished write of pair 0 it is that record's. A
+ * write that heals may be cut too, any number of times.
+ *
+ * Promised of a store that is made: from slots that are Blank, as zeros are, each pair written as sio_plan_write says, the pages
+ * in any order and pair 0 last, it is judged not writable under either clean mark, and no slot is named, until the record of
+ * pair 0 stands whole, wherever a write is cut without an accident (docs/FORMAT.md, "The creation of a store"). Then it is
+ * sound. Where the slots hold an older store, those of pair 0 are zeroed first.
  */
 
 /* The number of an operator's next write: one above the highest of all numbered slots of its pairs, 1 where there is none. The
@@ -611,8 +618,8 @@ uint32_t sio_judge(const uint8_t *frames, size_t frames_len, uint8_t clean, uint
 uint32_t sio_next_number(const uint8_t *frames, size_t frames_len, uint8_t operator_id, uint64_t *number);
 
 /* One above the numbers of all winners of an operator's pairs, 1 where there is none. Then refused as by sio_next_number. It is
- * the number of a write that heals a pair of that operator, the one that sio_plan_heal gives, in every store that a history of
- * writes leads to (docs/FORMAT.md, "A history of writes"). In a damaged store it is not enough: a host heals by sio_plan_heal
+ * the number of a write that heals a pair of that operator, the one that sio_plan_heal gives, in every store that a host's
+ * writes lead to (docs/FORMAT.md, "The life of a store"). In a damaged store it is not enough: a host heals by sio_plan_heal
  * alone. */
 uint32_t sio_heal_number(const uint8_t *frames, size_t frames_len, uint8_t operator_id, uint64_t *number);
 
