@@ -16,7 +16,7 @@ use Rattle.cut.proofs.StatusLaws.{passed_is}
 use Rattle.cut.proofs.CutLaws.{torn_byte, torn_bytes, anywhere, length_torn, Header, torn_header}
 use Rattle.cut.proofs.StateLaws.{Short, beside, asked, Leads, Resting, Flying, under_check}
 use Rattle.cut.proofs.NextLaws.{length_bytes, length_short, Next, wins, next_resting, next_flying}
-use Rattle.cut.proofs.WrittenLaws.{Writes, new_size, new_bytes, new_magic, new_header, new_payload, sizes_same}
+use Rattle.cut.proofs.WrittenLaws.{WrittenInto, new_size, new_bytes, new_magic, new_header, new_payload, sizes_same}
 use Rattle.cut.proofs.WriteLaws.{BesideWinner, old_is, writes, fitting, new_beside, new_short}
 
 -- ---- the length in the header stays short
@@ -79,7 +79,7 @@ module _ {n : ℕ} (w : Write) (made : BesideWinner n w) (below : made.correct.w
   abbrev c : List ℕ
   c = left w
 
-  abbrev wrote : Writes (made.correct.winner.generation + 1) made.correct.winner.header_crc32c n w
+  abbrev wrote : WrittenInto (made.correct.winner.generation + 1) made.correct.winner.header_crc32c n w
   wrote = writes w made
 
   sizes : length (old w) ≡ length (new w)

@@ -26,7 +26,7 @@ use Rattle.meta.specs.declared.meta2.VolumeMeta2.{VolumeMeta2}
 use Rattle.meta.proofs.VolumeLaws.{volume_decoded}
 use Rattle.cut.specs.Store.{Every, mark_by, clean_mark, store_mark, Slot, Pair, slot_at, status, report, shown, frames, Beside, SoundPair, IsPage, IsRow}
 use Rattle.cut.specs.Cut.{Tear, Ascending, Write, store, size, old, new, cut, torn, left, next_number, CutPoint, CorrectWrite, Accident, payload_by, SectorAccident, is_empty, handed, PayloadIs}
-use Rattle.cut.specs.Laws.{of_operator, SoundUnderAny, UnmarkedRecord, UnmarkedStore, UnmarkedAsked, PageHanded, TornHanded, WholeHanded, OldHeaderKept, NoneInOrder, zeros, PairFrame, OnePayload, HasSlots}
+use Rattle.cut.specs.Laws.{AnySlot, AnyFirst, AnyBoth, AnyPage, AnyRow, AnyWritten, AnyCorrect, of_operator, SoundUnderAny, UnmarkedRecord, UnmarkedStore, UnmarkedAsked, PageHanded, TornHanded, WholeHanded, OldHeaderKept, NoneInOrder, zeros, PairFrame, OnePayload, HasSlots}
 use Rattle.cut.proofs.StatusLaws.{false_true}
 use Rattle.cut.proofs.PairLaws.{last_is}
 use Rattle.cut.proofs.CutLaws.{kept_by_header}
@@ -208,3 +208,67 @@ handed_back p a b part expect_a expect_b slots handed a' b' part' a_is b_is hand
     let report_is : report p ≡ read_pair a.now expect_a b.now expect_b = cc (slots.bytes_a, slots.expect_a, slots.bytes_b, slots.expect_b) in
     parts_same (winner_info (report p)) a' b' part' a b part (a_is ∙ slots.bytes_a) (b_is ∙ slots.bytes_b) handed'
     (subst (λ (r : PairReport). WinnerPart (winner_info r) a b part) (sym report_is) handed)
+
+-- ---- what a sound store and a correct write ask for
+
+pub any_slot : AnySlot
+any_slot s bytes volume volume_bytes object offset rest format numbered =
+    record {
+      typed = record { bytes = bytes; volume = volume; volume_bytes = volume_bytes; object = object; offset = offset; rest = rest };
+      format = format;
+      numbered = numbered;
+    }
+
+pub any_first : AnyFirst
+any_first p i slots valid generation blank accepted =
+    record {
+      slots = slots;
+      newer = SlotIndex.A;
+      info = i;
+      valid = valid;
+      accepted = accepted;
+      beside = Beside.first refl generation blank;
+    }
+
+pub any_both : AnyBoth
+any_both p newer i j slots valid beside_valid generation number link accepted beside_accepted =
+    record {
+      slots = slots;
+      newer = newer;
+      info = i;
+      valid = valid;
+      accepted = accepted;
+      beside = Beside.both j beside_valid generation number link beside_accepted;
+    }
+
+pub any_page : AnyPage
+any_page p index most decoder = record { index = index; most = most; decoder = decoder }
+
+pub any_row : AnyRow
+any_row p ps volume pages range sound =
+    let is_row : IsRow (p ∷ ps) = IsRow.row volume pages range in (is_row, record { row = is_row; pairs = sound })
+
+pub any_written : AnyWritten
+any_written generation prev number w format volume object offset index log2 generation_is generation_fits prev_is number_is number_fits owner compat bytes accepted fits room =
+    record {
+      format = format;
+      volume = volume;
+      object = object;
+      offset = offset;
+      index = index;
+      log2 = log2;
+      generation_is = generation_is;
+      generation_fits = generation_fits;
+      prev_is = prev_is;
+      number_is = number_is;
+      number_fits = number_fits;
+      owner = owner;
+      compat = compat;
+      bytes = bytes;
+      accepted = accepted;
+      fits = fits;
+      room = room;
+    }
+
+pub any_correct : AnyCorrect
+any_correct n w winner won written = record { winner = winner; won = won; written = written }

@@ -15,7 +15,7 @@ use Rattle.judge.specs.Frames.{verdict_width}
 use Rattle.judge.specs.declared.verdict.SlotVerdict.{SlotVerdict}
 use Rattle.judge.specs.declared.verdict.PairVerdict.{PairVerdict}
 use Rattle.cut.specs.Store.{Every, Slot, Pair, slot_at, shown, last_record, store_mark, SoundPair, IsRow}
-use Rattle.cut.specs.Cut.{Write, store, size, old, new, left, with_slot, after, next_number, Possible, CorrectWrite, whole, Accident, is_empty, handed, VolumeFirst, Survives, CutTheorem}
+use Rattle.cut.specs.Cut.{Write, store, size, old, new, left, with_slot, after, next_number, Possible, CorrectWrite, whole, Accident, is_empty, handed, VolumeIfMarked, Survives, CutTheorem}
 use Rattle.cut.specs.Laws.{OlderSurvived}
 use Rattle.cut.proofs.EveryLaws.{every_split, same_length}
 use Rattle.cut.proofs.StatusLaws.{false_true}
@@ -119,7 +119,7 @@ module _ (p : Pair) (index : SlotIndex) (i : SlotInfo) (n : ℕ) (whole : Bool) 
 
 module _ (w : Write) (sound_before : Every SoundPair w.before) (sound : SoundPair w.pair) (sound_behind : Every SoundPair w.behind)
     (correct : CorrectWrite w) (possible : Possible w.tear (size w)) (none : Accident (left w) (old w) (new w) w.payload → ⊥)
-    (few : length (store w) ≤ most_pairs) (range : operators_in_range true (shown (store w)) ≡ true) (first : VolumeFirst w.before w.pair w.behind) (out : List ℕ) (room : length out ≡ length (store w) * verdict_width) where
+    (few : length (store w) ≤ most_pairs) (range : operators_in_range true (shown (store w)) ≡ true) (first : VolumeIfMarked w.before w.pair w.behind) (out : List ℕ) (room : length out ≡ length (store w) * verdict_width) where
   abbrev p : Pair
   p = with_slot w.index (left w) w.pair
 
@@ -202,7 +202,7 @@ module _ (w : Write) (sound_before : Every SoundPair w.before) (sound : SoundPai
         back = row_back sound_before (stands_back answer.stands) sound_behind;
       }
 
--- The judge is handed false, or a mark that meets no candidate.
+-- Where the written slot is in flight the mark does not count: it is not set, or the slot is pair 0's.
 pub older_survived : OlderSurvived
 older_survived w sound few first correct possible none out room =
     let all = every_split w.before w.pair w.behind (sound.pairs) in

@@ -18,7 +18,7 @@ use Rattle.cut.proofs.ByteLaws.{le32_lt}
 use Rattle.cut.proofs.StatusLaws.{false_true, passed_is, valid_is}
 use Rattle.cut.proofs.PairLaws.{last_is}
 use Rattle.cut.proofs.StateLaws.{Short, beside, Leads, Fitting, Resting, under_header, under_check, sound_leads, sound_rests, sound_won}
-use Rattle.cut.proofs.WrittenLaws.{Writes, old_size, payload_small, fields_proper, expect_is, not_refused, new_header, sizes_same}
+use Rattle.cut.proofs.WrittenLaws.{WrittenInto, old_size, payload_small, fields_proper, expect_is, not_refused, new_header, sizes_same}
 use Rattle.cut.proofs.NextLaws.{length_short, back_slot}
 
 -- A correct write with the number n, and the winner that it is made beside.
@@ -47,7 +47,7 @@ module _ {n : ℕ} (w : Write) (made : BesideWinner n w) where
       rw (valid_is winner_slot.bytes winner_slot.expect i made.leads.valid).info_is
       (le32_lt winner_slot.bytes (made.leads.slots (other w.index)).typed.bytes 8)
 
-  pub writes : Writes (made.correct.winner.generation + 1) made.correct.winner.header_crc32c n w
+  pub writes : WrittenInto (made.correct.winner.generation + 1) made.correct.winner.header_crc32c n w
   writes =
       record {
         written = made.correct.written;

@@ -30,7 +30,7 @@ expect_same : {v v' : List ℕ} {o o' s s' l l' f f' : ℕ} {x x' : SlotIndex} {
 expect_same volume object offset index log2 format numbered = cc
 
 -- What is written, and the slot that it is written to.
-pub record Writes (generation prev number : ℕ) (w : Write) : Type 0 where
+pub record WrittenInto (generation prev number : ℕ) (w : Write) : Type 0 where
   pub written : Written generation prev number w
   pub slot : SoundSlot (slot_at w.index w.pair)
   pub length_ok : is_slot_length (length (old w)) (expect w).log2_slot_size ≡ true
@@ -38,7 +38,7 @@ pub record Writes (generation prev number : ℕ) (w : Write) : Type 0 where
   pub prev_fits : prev < 2 ^ 32
   pub some_number : 1 ≤ number
 
-module _ {generation prev number : ℕ} (w : Write) (made : Writes generation prev number w) where
+module _ {generation prev number : ℕ} (w : Write) (made : WrittenInto generation prev number w) where
   abbrev f : SlotFields
   f = w.fields
 

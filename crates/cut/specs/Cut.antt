@@ -206,8 +206,8 @@ unfoldable pub handed : Write → Bool
 handed w = if is_empty w.before then (if whole w then clean_mark w.payload else store_mark (store w)) else store_mark (store w)
 
 -- Where the store's mark is set, the pair that is written is pair 0.
-abbrev pub VolumeFirst : List Pair → Pair → List Pair → Type 0
-VolumeFirst before p behind = store_mark (before ++ p ∷ behind) ≡ true → is_empty before ≡ true
+abbrev pub VolumeIfMarked : List Pair → Pair → List Pair → Type 0
+VolumeIfMarked before p behind = store_mark (before ++ p ∷ behind) ≡ true → is_empty before ≡ true
 
 -- Every pair's last written record: in the written pair the new one if it stands whole.
 abbrev pub records : Write → List (List ℕ)
@@ -257,7 +257,7 @@ CutTheorem =
     (w : Write)
     → Sound (store w)
     → length (store w) ≤ most_pairs
-    → VolumeFirst w.before w.pair w.behind
+    → VolumeIfMarked w.before w.pair w.behind
     → CorrectWrite w
     → Possible w.tear (size w)
     → (AccidentBy w.tear (left w) (old w) (new w) w.payload → ⊥)

@@ -1,22 +1,28 @@
 -- Laws on the words of the cut theorem (docs/FORMAT.md, "The sound store and the cut"). It would also hold of a store that always has the
 -- mark, of a decoder that accepts anything or of a frame that holds less; these laws would not. Each is the contract of a function.
-use Rattle.std.specs.Prelude.{◌≡◌, Bool, true, false, if◌then◌else◌, List, [], ◌∷◌, ◌++◌, ℕ, ◌*◌, ◌≤◌, length, map, get_or, take, drop, Ok, Err}
-use Rattle.codec.specs.Bytes.{le16, le32}
+use Rattle.std.specs.Prelude.{◌≡◌, Bool, true, false, if◌then◌else◌, List, [], ◌∷◌, ◌++◌, ℕ, ◌+◌, ◌*◌, ◌^◌, ◌≤◌, ◌<◌, length, map, get_or, take, drop, Some, Ok, Err}
+use Rattle.codec.specs.Bytes.{AllBytes, le16, le32}
 use Rattle.codec.specs.Crc32c.{crc32c}
+use Rattle.slot.specs.Status.{other}
 use Rattle.slot.specs.Payload.{payload}
 use Rattle.slot.specs.Read.{header_facts, header_sum}
 use Rattle.slot.specs.Write.{encode, header_crc}
+use Rattle.slot.specs.declared.slot.SlotIndex.{SlotIndex}
+use Rattle.slot.specs.declared.slot.SlotInfo.{SlotInfo}
+use Rattle.slot.specs.declared.slot.SlotStatus.{SlotStatus}
 use Rattle.slot.specs.declared.slot.Expect.{Expect}
+use Rattle.pair.specs.Pair.{winner_info}
 use Rattle.judge.specs.Operators.{operators_in_range}
 use Rattle.judge.specs.Judge.{most_pairs}
 use Rattle.judge.specs.Frames.{verdict_width}
+use Rattle.judge.specs.Same.{VersionFits}
 use Rattle.judge.specs.Part.{part_of, part_bytes}
 use Rattle.judge.specs.declared.pairs.Version.{Version}
 use Rattle.meta.specs.Volume.{decode_volume}
 use Rattle.meta.specs.Page.{decode_page}
 use Rattle.meta.specs.declared.meta.MetaError.{MetaError}
-use Rattle.cut.specs.Store.{Volume, Page, accepts, clean_mark, Pair, slot_at, status, shown, frames, store_mark, SoundPair, Sound}
-use Rattle.cut.specs.Cut.{Ascending, Sectors, Write, store, size, old, new, torn, left, CutPoint, Possible, Anywhere, CorrectWrite, whole, header_passes, payload_in, Accident, payload_by, SectorAccident, handed, VolumeFirst, PayloadIs, Survives}
+use Rattle.cut.specs.Store.{Every, Volume, Page, accepts, clean_mark, Slot, Pair, slot_at, status, report, shown, frames, store_mark, SoundSlot, SoundPair, IsPage, IsRow, Sound}
+use Rattle.cut.specs.Cut.{Ascending, Sectors, Write, store, size, expect, old, new, torn, left, CutPoint, Possible, Anywhere, Written, CorrectWith, CorrectWrite, whole, header_passes, payload_in, Accident, payload_by, SectorAccident, handed, VolumeIfMarked, PayloadIs, Survives}
 
 -- ---- the decoders
 
@@ -27,6 +33,54 @@ VolumeRefused = (r : List ℕ) (error : MetaError) → decode_volume r ≡ Err e
 -- and neither is a page.
 abbrev pub PageRefused : Type 0
 PageRefused = (index most : ℕ) (r : List ℕ) (error : MetaError) → decode_page r index most ≡ Err error → accepts (Page index most) r ≡ false
+
+-- ---- what a sound store asks for
+
+-- Nothing else is asked of a slot,
+abbrev pub AnySlot : Type 0
+AnySlot =
+    (s : Slot) → AllBytes s.bytes → length s.expect.volume_uuid ≡ 16 → AllBytes s.expect.volume_uuid → s.expect.object_id < 2 ^ 64
+    → s.expect.slot_offset < 2 ^ 64 → VersionFits s.rest → s.expect.format_major ≡ 2 → s.expect.numbered ≡ true → SoundSlot s
+
+-- of a pair whose slot A alone was written,
+abbrev pub AnyFirst : Type 0
+AnyFirst =
+    (p : Pair) (i : SlotInfo) → ((index : SlotIndex) → SoundSlot (slot_at index p)) → status p.a ≡ SlotStatus.Valid i → i.generation ≡ 1
+    → status p.b ≡ SlotStatus.Blank → accepts p.decoder (payload i p.a.bytes) ≡ true → SoundPair p
+
+-- of one whose slots both were,
+abbrev pub AnyBoth : Type 0
+AnyBoth =
+    (p : Pair) (newer : SlotIndex) (i j : SlotInfo) → ((index : SlotIndex) → SoundSlot (slot_at index p))
+    → status (slot_at newer p) ≡ SlotStatus.Valid i → status (slot_at (other newer) p) ≡ SlotStatus.Valid j
+    → i.generation ≡ j.generation + 1 → j.meta_seq < i.meta_seq → i.prev_header_crc32c ≡ j.header_crc32c
+    → accepts p.decoder (payload i (slot_at newer p).bytes) ≡ true → accepts p.decoder (payload j (slot_at (other newer) p).bytes) ≡ true
+    → SoundPair p
+
+-- of a page,
+abbrev pub AnyPage : Type 0
+AnyPage = (p : Pair) (index most : ℕ) → p.decoder ≡ Page index most → IsPage p
+
+-- and of the row, however long it is.
+abbrev pub AnyRow : Type 0
+AnyRow =
+    (p : Pair) (ps : List Pair) → p.decoder ≡ Volume → Every IsPage ps → operators_in_range true (shown (p ∷ ps)) ≡ true
+    → Every SoundPair (p ∷ ps) → IsRow (p ∷ ps) × Sound (p ∷ ps)
+
+-- Nor of what is written, and of a correct write.
+abbrev pub AnyWritten : Type 0
+AnyWritten =
+    (generation prev number : ℕ) (w : Write) → w.fields.format_major ≡ 2 → w.fields.volume_uuid ≡ (expect w).volume_uuid
+    → w.fields.object_id ≡ (expect w).object_id → w.fields.slot_offset ≡ (expect w).slot_offset → w.fields.slot_index ≡ (expect w).slot_index
+    → w.fields.log2_slot_size ≡ (expect w).log2_slot_size → w.fields.generation ≡ generation → w.fields.generation < 2 ^ 64
+    → w.fields.prev_header_crc32c ≡ prev → w.fields.meta_seq ≡ number → w.fields.meta_seq < 2 ^ 64 → w.fields.owner_generation < 2 ^ 64
+    → w.fields.compat_flags < 2 ^ 32 → AllBytes w.payload → accepts w.pair.decoder w.payload ≡ true → 128 + length w.payload ≤ size w
+    → length w.buffer ≡ size w → Written generation prev number w
+
+abbrev pub AnyCorrect : Type 0
+AnyCorrect =
+    (n : ℕ) (w : Write) (winner : SlotInfo) → winner_info (report w.pair) ≡ Some (other w.index, winner)
+    → Written (winner.generation + 1) winner.header_crc32c n w → CorrectWith n w
 
 -- ---- the operators
 
@@ -80,11 +134,11 @@ UnmarkedStore =
 
 -- The theorem asks that the mark is not set,
 abbrev pub UnmarkedAsked : Type 0
-UnmarkedAsked = (before : List Pair) (p : Pair) (behind : List Pair) → store_mark (before ++ p ∷ behind) ≡ false → VolumeFirst before p behind
+UnmarkedAsked = (before : List Pair) (p : Pair) (behind : List Pair) → store_mark (before ++ p ∷ behind) ≡ false → VolumeIfMarked before p behind
 
 -- or that pair 0 is written, whatever the mark.
 abbrev pub VolumeAsked : Type 0
-VolumeAsked = (p : Pair) (behind : List Pair) → VolumeFirst [] p behind
+VolumeAsked = (p : Pair) (behind : List Pair) → VolumeIfMarked [] p behind
 
 -- After a write to a page the judge is handed the mark of before,
 abbrev pub PageHanded : Type 0
@@ -122,7 +176,7 @@ OlderAtMost =
 -- The theorem does not need that there is none: its conclusion holds where that one alone happened.
 abbrev pub OlderSurvived : Type 0
 OlderSurvived =
-    (w : Write) → Sound (store w) → length (store w) ≤ most_pairs → VolumeFirst w.before w.pair w.behind → CorrectWrite w → Possible w.tear (size w)
+    (w : Write) → Sound (store w) → length (store w) ≤ most_pairs → VolumeIfMarked w.before w.pair w.behind → CorrectWrite w → Possible w.tear (size w)
     → (Accident (left w) (old w) (new w) w.payload → ⊥)
     → (out : List ℕ) → length out ≡ length (store w) * verdict_width → Survives w out
 

@@ -7,7 +7,7 @@ ghost use Rattle.pair.specs.Winner.{read_pair};
 ghost use Rattle.judge.specs.Same.{NothingGiven, ChecksumGiven, NumbersGiven};
 ghost use Rattle.cut.specs.Store.{Pair};
 ghost use Rattle.cut.specs.Cut.{CutTheorem, PayloadIs};
-ghost use Rattle.cut.specs.Laws.{VolumeRefused, PageRefused, SoundUnderAny, Encoded, EachSector, AnySectors, AnywhereInOrder, AnywhereBySectors, UnmarkedRecord, UnmarkedStore, UnmarkedAsked, VolumeAsked, PageHanded, TornHanded, WholeHanded, FailedSum, FailedPayload, OlderAtMost, OlderSurvived, OldHeaderKept, NoneInOrder, PairFrame, OnePayload, HasSlots};
+ghost use Rattle.cut.specs.Laws.{VolumeRefused, PageRefused, AnySlot, AnyFirst, AnyBoth, AnyPage, AnyRow, AnyWritten, AnyCorrect, SoundUnderAny, Encoded, EachSector, AnySectors, AnywhereInOrder, AnywhereBySectors, UnmarkedRecord, UnmarkedStore, UnmarkedAsked, VolumeAsked, PageHanded, TornHanded, WholeHanded, FailedSum, FailedPayload, OlderAtMost, OlderSurvived, OldHeaderKept, NoneInOrder, PairFrame, OnePayload, HasSlots};
 
 use pair::pair::PairReport;
 use slot::slot::Expect;
@@ -20,6 +20,17 @@ pub fn cut_theorem()
 pub fn refused_records()
     ensures volume { VolumeRefused }
     ensures page { PageRefused }
+{}
+
+// What a sound store and a correct write ask for, and no more.
+pub fn asked_store()
+    ensures slot { AnySlot }
+    ensures first { AnyFirst }
+    ensures both { AnyBoth }
+    ensures page { AnyPage }
+    ensures row { AnyRow }
+    ensures written { AnyWritten }
+    ensures correct { AnyCorrect }
 {}
 
 // A store whose numbers were counted for all its pairs together needs no change.

@@ -26,7 +26,7 @@ use Rattle.meta.specs.Base.{base_at, check_base}
 use Rattle.meta.specs.Volume.{tail_at, check_tail, check_volume, decode_volume, volume_bytes as volume_record_bytes}
 use Rattle.meta.specs.Page.{header_at, decode_page, entries, header_row as page_header_row, header_bytes as page_header_bytes}
 use Rattle.cut.specs.Store.{Every, Decoder, Volume, Page, accepts, clean_mark, Pair, slot_at, status, report, shown, last_record, store_mark, Typed, SoundSlot, Beside, SoundPair, IsRow, Sound}
-use Rattle.cut.specs.Cut.{Tear, Ascending, Sectors, Write, store, size, old, new, cut, torn, CutPoint, Possible, Written, CorrectWith, CorrectWrite, stands_whole, whole, payload_in, Accident, payload_by, SectorAccident, AccidentBy, handed, VolumeFirst}
+use Rattle.cut.specs.Cut.{Tear, Ascending, Sectors, Write, store, size, old, new, cut, torn, CutPoint, Possible, Written, CorrectWith, CorrectWrite, stands_whole, whole, payload_in, Accident, payload_by, SectorAccident, AccidentBy, handed, VolumeIfMarked}
 use Rattle.cut_examples.specs.Stores.{volume_by, volume_record, reopened_record, page_record, rest, fields, read_with, zeros_for, written_slot, blank_slot, volume_fields, volume_pair, marked_fields, closed_volume, older_fields, newer_fields, first_page, second_fields, second_page, new_fields, later_page, first_store, closed_store, later_store}
 use Rattle.cut_examples.specs.Writes.{IsMet, MetIsEnough, write_to, page_write, volume_write, opening_fields, opening_write, next_fields, second_write, later_fields, later_write, PageMet, VolumeMet, OpeningMet, SecondMet, LaterMet, StandsWhole, MarkHanded, OldMarkHanded}
 use Rattle.cut.proofs.ByteLaws.{bytes_tested, row_bytes, slot_all_bytes}
@@ -397,7 +397,7 @@ module _ (size : ℕ) (before after payload : List ℕ) where
       )
       go false is test = false_true refl test
 
-module _ (w : Write) (sound_store : Sound (store w)) (few : length (store w) ≤ most_pairs) (first_is : VolumeFirst w.before w.pair w.behind)
+module _ (w : Write) (sound_store : Sound (store w)) (few : length (store w) ≤ most_pairs) (first_is : VolumeIfMarked w.before w.pair w.behind)
     (right : CorrectWrite w) (before after : List ℕ) (old_is : old w ≡ before) (new_is : new w ≡ after) where
   -- Of a correct write to a sound store, of pair 0 where the mark is set, the tests are all that is left.
   pub met_by : tear_tests (size w) w.tear after before w.payload ≡ true → IsMet w
@@ -405,7 +405,7 @@ module _ (w : Write) (sound_store : Sound (store w)) (few : length (store w) ≤
       let no_accident = tested (size w) before after w.payload w.tear tests in
       record { sound = sound_store; few = few; first = first_is; correct = right; possible = no_accident.0; none = rw (new_is, old_is) no_accident.1 }
 
-pub unmarked_first : (w : Write) → store_mark (store w) ≡ false → VolumeFirst w.before w.pair w.behind
+pub unmarked_first : (w : Write) → store_mark (store w) ≡ false → VolumeIfMarked w.before w.pair w.behind
 unmarked_first w none = unmarked_asked w.before w.pair w.behind none
 
 -- ---- writes

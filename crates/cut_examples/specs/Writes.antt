@@ -7,7 +7,7 @@ use Rattle.slot.specs.declared.slot.SlotFields.{SlotFields}
 use Rattle.judge.specs.Judge.{most_pairs}
 use Rattle.judge.specs.Frames.{verdict_width}
 use Rattle.cut.specs.Store.{Every, Pair, store_mark, Sound}
-use Rattle.cut.specs.Cut.{Tear, Ascending, Sectors, Write, store, size, old, new, left, Possible, CorrectWrite, whole, AccidentBy, handed, VolumeFirst, Survives}
+use Rattle.cut.specs.Cut.{Tear, Ascending, Sectors, Write, store, size, old, new, left, Possible, CorrectWrite, whole, AccidentBy, handed, VolumeIfMarked, Survives}
 use Rattle.cut_examples.specs.Stores.{volume_record, reopened_record, page_record, long_record, fields, zeros_for, volume_pair, marked_fields, closed_volume, first_page, second_page, new_fields, later_page, long_page, first_store, closed_store, later_store, long_store}
 
 -- ---- the hypotheses
@@ -25,7 +25,7 @@ StoresMarked =
 pub record IsMet (w : Write) : Type 0 where
   pub sound : Sound (store w)
   pub few : length (store w) ≤ most_pairs
-  pub first : VolumeFirst w.before w.pair w.behind
+  pub first : VolumeIfMarked w.before w.pair w.behind
   pub correct : CorrectWrite w
   pub possible : Possible w.tear (size w)
   pub none : AccidentBy w.tear (left w) (old w) (new w) w.payload → ⊥
