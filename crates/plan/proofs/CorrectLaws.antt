@@ -1,5 +1,5 @@
 -- A planned write is a correct write, and so the cut theorem is about it.
-use Rattle.std.proofs.Common.{◌≡◌, refl, sym, ap, ap₂, subst, ◌∙◌, List, ◌∷◌, ◌++◌, ℕ, ◌+◌, ◌^◌, ◌≤◌, ◌<◌, arith, length, Option, Some, None, Result, Ok, Err}
+use Rattle.std.proofs.Common.{◌≡◌, refl, sym, ap, ap₂, subst, ◌∙◌, List, ◌∷◌, ◌++◌, ℕ, ◌+◌, ◌^◌, ◌≤◌, ◌<◌, arith, length, Option, Some, None, Result, Ok, Err, ◌⊎◌, inl, inr, false, []}
 use Rattle.std.proofs.lemmas.Option.{some_pair_parts, same_Some}
 use Rattle.codec.specs.Bytes.{AllBytes}
 use Rattle.slot.specs.Status.{other}
@@ -19,19 +19,20 @@ use Rattle.judge.specs.Frames.{operator_in, row}
 use Rattle.judge.specs.Same.{AllFit, frame_of}
 use Rattle.judge.proofs.SameLaws.{operator-read, row-is}
 use Rattle.judge.specs.declared.pairs.Pair.{Pair as ShownPair}
-use Rattle.cut.specs.Store.{Every, Pair, slot_at, report, framed_pair, framed, shown, frames, SoundPair}
-use Rattle.cut.specs.Cut.{Tear, Ascending, Sectors, old, new, left, Written, CorrectWith, AccidentBy}
+use Rattle.cut.specs.Store.{store_mark, Every, Pair, slot_at, report, framed_pair, framed, shown, frames, SoundPair}
+use Rattle.cut.specs.Cut.{Tear, Ascending, Sectors, old, new, left, Written, CorrectWith, AccidentBy, is_empty, VolumeIfMarked}
 use Rattle.cut.proofs.FrameLaws.{PairTyped, row_fits, count_frames}
 use Rattle.cut.proofs.EveryLaws.{every_split}
 use Rattle.cut.proofs.PairLaws.{other_other}
 use Rattle.cut.proofs.StateLaws.{sound_won}
+use Rattle.cut.proofs.StatementLaws.{unmarked_asked}
 use Rattle.cut.proofs.Theorem.{cut_theorem}
 use Rattle.plan.specs.declared.error.PlanError.{PlanError}
 use Rattle.plan.specs.declared.write.Plan.{Plan}
 use Rattle.plan.specs.Pairs.{frame_report}
 use Rattle.plan.specs.Plan.{followed, plan_write}
 use Rattle.plan.specs.Next.{fields_of, encoded, write_by, next_write as next_by}
-use Rattle.plan.specs.Promise.{NumberedPair, write_of, IsGiven, PlannedIsCorrect, Answer, SurvivesCuts, BothKindsSurvived}
+use Rattle.plan.specs.Promise.{AnyGiven, AnyPlannedFor, NumberedPair, write_of, IsGiven, PlannedIsCorrect, Answer, SurvivesCuts, BothKindsSurvived}
 use Rattle.plan.proofs.PlanLaws.{Has, plan_has, planned_frame, planned_few, next_of_winner}
 use Rattle.plan.proofs.ReportLaws.{held_report, winner_held, followed_held}
 use Rattle.plan.proofs.FrameLaws.{frame_reports, frame_at, fits_at}
@@ -191,7 +192,7 @@ survives_cuts given i a b owner compat payload buffer written answer owner_fits 
     let same : new w ≡ written =
     ap (λ (e : Expect). (encode (fields_of plan e owner compat) payload buffer).0) same_expect ∙ sym known.bytes in (
       same,
-      cut_theorem w asked.sound few asked.volume_first correct possible
+      cut_theorem w asked.sound few asked.volume_if_marked correct possible
           (λ accident. no_accident (subst (λ (bytes : List ℕ). AccidentBy tear (left w) (old w) bytes payload) same accident))
           verdicts verdicts_room,
     )
@@ -206,3 +207,27 @@ both_kinds_survived given i a b owner compat payload buffer written answer befor
       ascending = λ k point none. (survives before p behind plan (Ascending k) verdicts asked point none verdicts_room).1;
       sectors = λ reached none. (survives before p behind plan (Sectors reached) verdicts asked tt none verdicts_room).1;
     }
+
+-- ---- what is asked
+
+pub any_given : AnyGiven
+any_given w owner compat bytes accepted fits room =
+    record { owner = owner; compat = compat; bytes = bytes; accepted = accepted; fits = fits; room = room }
+
+pub any_planned_for : AnyPlannedFor
+any_planned_for given i a b payload answer before p behind plan crc sound either frames_are place read_a read_b planned accepted =
+    record {
+      crc = crc;
+      sound = sound;
+      volume_if_marked = go either;
+      frames_are = frames_are;
+      place = place;
+      read_a = read_a;
+      read_b = read_b;
+      planned = planned;
+      accepted = accepted;
+    }
+  where
+    go : (store_mark (before ++ p ∷ behind) ≡ false) ⊎ (before ≡ []) → VolumeIfMarked before p behind
+    go (inl unset) = unmarked_asked before p behind unset
+    go (inr first) = λ set. ap is_empty first

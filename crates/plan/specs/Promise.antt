@@ -1,6 +1,6 @@
 -- What a planned write keeps: it is the cut theorem's correct write, the store survives where it is cut, and a write that is finished
 -- leaves a sound store (docs/FORMAT.md, "What a correct write is"). Of more pairs than are judged none is planned.
-use Rattle.std.specs.Prelude.{◌≡◌, Bool, Option, Some, Result, Ok, Err, true, List, ◌∷◌, ◌++◌, ℕ, ◌+◌, ◌*◌, ◌^◌, ◌≤◌, ◌<◌, length}
+use Rattle.std.specs.Prelude.{◌≡◌, ◌⊎◌, Bool, Option, Some, Result, Ok, Err, true, false, List, [], ◌∷◌, ◌++◌, ℕ, ◌+◌, ◌*◌, ◌^◌, ◌≤◌, ◌<◌, length}
 use Rattle.codec.specs.Bytes.{AllBytes}
 use Rattle.slot.specs.declared.slot.SlotIndex.{SlotIndex}
 use Rattle.slot.specs.declared.slot.SlotInfo.{SlotInfo}
@@ -9,8 +9,8 @@ use Rattle.pair.specs.Pair.{winner_info}
 use Rattle.judge.specs.Judge.{most_pairs}
 use Rattle.judge.specs.Frames.{frame_width, verdict_width}
 use Rattle.judge.specs.declared.verdict.JudgeError.{JudgeError}
-use Rattle.cut.specs.Store.{Every, Pair, accepts, slot_at, report, frames, last_record, SoundSlot, Sound}
-use Rattle.cut.specs.Cut.{Tear, Ascending, Sectors, Write, store, size, old, new, left, with_slot, CutPoint, Possible, CorrectWrite, Accident, SectorAccident, AccidentBy, VolumeFirst, Survives}
+use Rattle.cut.specs.Store.{Every, Pair, accepts, slot_at, report, frames, last_record, store_mark, SoundSlot, Sound}
+use Rattle.cut.specs.Cut.{Tear, Ascending, Sectors, Write, store, size, old, new, left, with_slot, CutPoint, Possible, CorrectWrite, Accident, SectorAccident, AccidentBy, VolumeIfMarked, Survives}
 use Rattle.plan.specs.declared.error.PlanError.{PlanError}
 use Rattle.plan.specs.declared.write.Plan.{Plan}
 use Rattle.plan.specs.Numbers.{next_number, heal_number}
@@ -77,13 +77,32 @@ Answer = Result (Option (Plan × ℕ)) PlanError
 pub record PlannedFor (given : List ℕ) (i : ℕ) (a b : Expect) (payload : List ℕ) (answer : Answer) (before : List Pair) (p : Pair) (behind : List Pair) (plan : Plan) : Type 0 where
   pub crc : ℕ
   pub sound : Sound (before ++ p ∷ behind)
-  pub volume_first : VolumeFirst before p behind
+  pub volume_if_marked : VolumeIfMarked before p behind
   pub frames_are : given ≡ frames (before ++ p ∷ behind)
   pub place : i ≡ length before
   pub read_a : p.a.expect ≡ a
   pub read_b : p.b.expect ≡ b
   pub planned : answer ≡ Ok (Some (plan, crc))
   pub accepted : accepts p.decoder payload ≡ true
+
+-- ---- what is asked, and no more
+
+-- Of what is given with a plan,
+abbrev pub AnyGiven : Type 0
+AnyGiven =
+    (w : Write) → w.fields.owner_generation < 2 ^ 64 → w.fields.compat_flags < 2 ^ 32 → AllBytes w.payload → accepts w.pair.decoder w.payload ≡ true
+    → 128 + length w.payload ≤ 2 ^ (slot_at w.index w.pair).expect.log2_slot_size
+    → length w.buffer ≡ 2 ^ (slot_at w.index w.pair).expect.log2_slot_size → IsGiven w
+
+-- and of the store: where its mark is not set the pair is any, and pair 0 whatever the mark.
+abbrev pub AnyPlannedFor : Type 0
+AnyPlannedFor =
+    (given : List ℕ) (i : ℕ) (a b : Expect) (payload : List ℕ) (answer : Answer) (before : List Pair) (p : Pair) (behind : List Pair) (plan : Plan) (crc : ℕ)
+    → Sound (before ++ p ∷ behind) → (store_mark (before ++ p ∷ behind) ≡ false) ⊎ (before ≡ []) → given ≡ frames (before ++ p ∷ behind)
+    → i ≡ length before → p.a.expect ≡ a → p.b.expect ≡ b → answer ≡ Ok (Some (plan, crc)) → accepts p.decoder payload ≡ true
+    → PlannedFor given i a b payload answer before p behind plan
+
+-- ---- the cuts
 
 -- Where the write of the bytes to the planned slot is then cut without an accident, in ascending order or by sectors, the store survives.
 abbrev pub SurvivesCuts : List ℕ → ℕ → Expect → Expect → ℕ → ℕ → List ℕ → List ℕ → List ℕ → Answer → Type 0

@@ -2,7 +2,7 @@
 ghost use Rattle.plan.specs.Numbers.{WinnersOfVerdicts, WinnersOfOne};
 ghost use Rattle.plan.specs.Plan.{NotTheWinner};
 ghost use Rattle.plan.specs.Heal.{HealsTheNamed};
-ghost use Rattle.plan.specs.Promise.{MoreRefused, PlannedIsCorrect, BothKindsSurvived, FinishedIsSound};
+ghost use Rattle.plan.specs.Promise.{AnyGiven, AnyPlannedFor, MoreRefused, PlannedIsCorrect, BothKindsSurvived, FinishedIsSound};
 
 // Does nothing: its contract is that the winners whose numbers `heal_number` goes by are those of the judge's verdicts, and all of them
 // where all pairs are one operator's.
@@ -37,6 +37,12 @@ pub fn correct_law()
 // Does nothing: its contract is that what `next_write` promises of cuts is of those in ascending order and of those by sectors.
 pub fn cuts_law()
     ensures { BothKindsSurvived }
+{}
+
+// Does nothing: its contract is that no more is asked of what is given with a plan, and of the store.
+pub fn asked_law()
+    ensures given { AnyGiven }
+    ensures store { AnyPlannedFor }
 {}
 
 // Does nothing: its contract is that a correct write which is finished leaves a sound store whose last record is the payload.
