@@ -19,7 +19,7 @@ use Rattle.cut.proofs.StateLaws.{sound_won}
 use Rattle.cut.proofs.Theorem.{row_range}
 use Rattle.cut.proofs.RowLaws.{range_kept, rested_stands}
 use Rattle.history.specs.History.{Past, Tracked, past, past_after, pairs, started, record_in, read_mark, Turn, HistoryAccident, HarmfulAccident, write_to, finished, torn_by, Reached, Promised, HistoryTheorem}
-use Rattle.history.specs.Laws.{AnyStoreBegins, AnyWriteAllowed, AnyVolumeWriteAllowed, AnyHealAllowed, AnyCutGoesOn, KnownRecords, ReadIsKnown, Unmarked, UnmarkedRead, UnmarkedNamed, TheoremWithoutMark, StartMark, FinishedMark, AsWritten, LinkAtMost, OnlyTheWritten, HarmfulAlone, HarmfulIsAccident}
+use Rattle.history.specs.Laws.{AnyStoreBegins, AnyWriteAllowed, AnyVolumeWriteAllowed, AnyHealAllowed, AnyCutGoesOn, KnownRecords, ReadIsKnown, Unmarked, TheoremWithoutMark, UnmarkedBegins, UnmarkedFinish, UnmarkedCut, StartMark, FinishedMark, AsWritten, LinkAtMost, OnlyTheWritten, HarmfulAlone, HarmfulIsAccident}
 use Rattle.history.proofs.States.{Led, Rests, rested, State, pairs_row, flies_stand, all_named, none_named, mark_counted, promised}
 use Rattle.history.proofs.Steps.{start_all, tracked_operator, tracked_known, under_whole, under_kept, finish_state, finish_named, cut_state, cut_named}
 
@@ -115,16 +115,12 @@ state_unmarked ts (State.one_flies (u ∷ before) t behind is (Every.more rests 
     subst (λ (us : List Tracked). Marks us → read_mark (pairs us) ≡ false) (sym is)
     (λ first. first_unmarked rests.led (rested_stands (rested rests) (λ index number. true)).won first) marks
 
-pub unmarked_read : UnmarkedRead
+unmarked_read : (ts : List Tracked) (reached : Reached HarmfulAccident ts) → Unmarked ts reached → read_mark (pairs ts) ≡ false
 unmarked_read ts reached unmarked = state_unmarked ts (reached_state reached) (unmarked_marks unmarked)
 
 first_mark : (p : Pair) (ps : List Pair) → Every SoundPair (p ∷ ps) → read_mark (pairs (map started (p ∷ ps))) ≡ store_mark (p ∷ ps)
 first_mark p ps (Every.more sound rest) =
     ap (λ (won : Option (SlotIndex × SlotInfo)). clean_mark (record_in won p)) (sound_won p sound) ∙ ap clean_mark (sym (last_is p sound))
-
-pub unmarked_named : UnmarkedNamed
-unmarked_named ts reached unmarked =
-    ap (λ (clean : Bool). (judgement (shown (pairs ts)) clean).heal) (unmarked_read ts reached unmarked)
 
 pub start_mark : StartMark
 start_mark [] sound = refl
@@ -224,7 +220,21 @@ history_theorem ts reached = harmful_alone ts (fewer reached)
 
 pub theorem_without_mark : TheoremWithoutMark
 theorem_without_mark ts reached unmarked out room =
-    subst (λ (m : Bool). Promised m ts out) (unmarked_read ts (fewer reached) (fewer_unmarked unmarked)) (history_theorem ts reached out room)
+    let unset = unmarked_read ts (fewer reached) (fewer_unmarked unmarked) in
+    record {
+      read = unset;
+      turn = ap (λ (clean : Bool). (judgement (shown (pairs ts)) clean).heal) unset;
+      promised = subst (λ (clean : Bool). Promised clean ts out) unset (history_theorem ts reached out room);
+    }
+
+pub unmarked_begins : UnmarkedBegins
+unmarked_begins ps sound few unset = Unmarked.start {ps = ps} {sound = sound} {few = few} unset
+
+pub unmarked_finish : UnmarkedFinish
+unmarked_finish before t behind reached q allowed unmarked unset = Unmarked.finish unmarked unset
+
+pub unmarked_cut : UnmarkedCut
+unmarked_cut before t behind reached q allowed possible none unmarked unset = Unmarked.cut unmarked unset
 
 -- ---- what it asks for
 

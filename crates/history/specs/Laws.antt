@@ -87,20 +87,40 @@ pub data Unmarked {Accident : Write → Past → SlotInfo → Type 0} : (ts : Li
       → Unmarked (before ++ t ∷ behind) reached → SetsNoMark (write_to before t behind q)
       → Unmarked (before ++ torn_by (write_to before t behind q) t ∷ behind) (Reached.cut before t behind reached q allowed possible none)
 
--- In it the mark that is read is always false,
-abbrev pub UnmarkedRead : Type 0
-UnmarkedRead = (ts : List Tracked) (reached : Reached HarmfulAccident ts) → Unmarked ts reached → read_mark (pairs ts) ≡ false
+-- What is promised of it: the mark that is read is false, so the slot by which the next write goes is the one that the judge names, handed
+-- false, and everything is promised under that mark.
+pub record WithoutMark (ts : List Tracked) (out : List ℕ) : Type 0 where
+  pub read : read_mark (pairs ts) ≡ false
+  pub turn : named (pairs ts) ≡ (judgement (shown (pairs ts)) false).heal
+  pub promised : Promised false ts out
 
--- so the slot by which the next write goes is the one that the judge names, handed false,
-abbrev pub UnmarkedNamed : Type 0
-UnmarkedNamed =
-    (ts : List Tracked) (reached : Reached HarmfulAccident ts) → Unmarked ts reached → named (pairs ts) ≡ (judgement (shown (pairs ts)) false).heal
-
--- and everything is promised under that mark.
 abbrev pub TheoremWithoutMark : Type 0
 TheoremWithoutMark =
     (ts : List Tracked) (reached : Reached HistoryAccident ts) → Unmarked ts reached → (out : List ℕ) → length out ≡ length ts * verdict_width
-    → Promised false ts out
+    → WithoutMark ts out
+
+-- Any store without the mark begins it,
+abbrev pub UnmarkedBegins : Type 0
+UnmarkedBegins =
+    (ps : List Pair) (sound : Sound ps) (few : length ps ≤ 112) → store_mark ps ≡ false
+    → Unmarked {Accident = HistoryAccident} (map started ps) (Reached.start sound few)
+
+-- and any write goes on with it that sets none, finished
+abbrev pub UnmarkedFinish : Type 0
+UnmarkedFinish =
+    (before : List Tracked) (t : Tracked) (behind : List Tracked) (reached : Reached HistoryAccident (before ++ t ∷ behind)) (q : Put)
+    (allowed : Allowed (write_to before t behind q))
+    → Unmarked (before ++ t ∷ behind) reached → (is_empty (pairs before) ≡ true → clean_mark q.payload ≡ false)
+    → Unmarked (before ++ finished (write_to before t behind q) t ∷ behind) (Reached.finish before t behind reached q allowed)
+
+-- or cut.
+abbrev pub UnmarkedCut : Type 0
+UnmarkedCut =
+    (before : List Tracked) (t : Tracked) (behind : List Tracked) (reached : Reached HistoryAccident (before ++ t ∷ behind)) (q : Put)
+    (allowed : Allowed (write_to before t behind q)) (possible : Possible q.tear (size (write_to before t behind q)))
+    (none : HistoryAccident (write_to before t behind q) (past q.index t) allowed.correct.winner → ⊥)
+    → Unmarked (before ++ t ∷ behind) reached → (is_empty (pairs before) ≡ true → clean_mark q.payload ≡ false)
+    → Unmarked (before ++ torn_by (write_to before t behind q) t ∷ behind) (Reached.cut before t behind reached q allowed possible none)
 
 -- The mark that is read is that of pair 0's last written record at the start.
 abbrev pub StartMark : Type 0

@@ -3,7 +3,7 @@
 #![tactic(auto)]
 
 ghost use Rattle.history.specs.History.{HistoryTheorem};
-ghost use Rattle.history.specs.Laws.{AnyStoreBegins, AnyWriteAllowed, AnyVolumeWriteAllowed, AnyHealAllowed, AnyCutGoesOn, KnownRecords, ReadIsKnown, UnmarkedRead, UnmarkedNamed, TheoremWithoutMark, StartMark, FinishedMark, LinkAtMost, HarmfulAlone, HarmfulIsAccident, OnlyTheWritten, NumbersAnswered, NumbersOfHistory, AllowedIsPlanned, FreePlanIsAllowed, HealPlanIsAllowed};
+ghost use Rattle.history.specs.Laws.{AnyStoreBegins, AnyWriteAllowed, AnyVolumeWriteAllowed, AnyHealAllowed, AnyCutGoesOn, KnownRecords, ReadIsKnown, TheoremWithoutMark, UnmarkedBegins, UnmarkedFinish, UnmarkedCut, StartMark, FinishedMark, LinkAtMost, HarmfulAlone, HarmfulIsAccident, OnlyTheWritten, NumbersAnswered, NumbersOfHistory, AllowedIsPlanned, FreePlanIsAllowed, HealPlanIsAllowed};
 
 pub fn history_theorem()
     ensures { HistoryTheorem }
@@ -25,19 +25,19 @@ pub fn known()
     ensures read { ReadIsKnown }
 {}
 
-// The mark that is read: at the start, after pair 0 was written, and in a history without it.
-#[tactic(auto, using(crate::proofs::Theorem::unmarked_read, crate::proofs::Theorem::start_mark))]
+// The mark that is read: at the start, and after pair 0 was written.
+#[tactic(auto, using(crate::proofs::Theorem::start_mark))]
 pub fn mark()
-    ensures unmarked { UnmarkedRead }
-    ensures named { UnmarkedNamed }
     ensures start { StartMark }
     ensures finished { FinishedMark }
 {}
 
 // The theorem where a history has no mark: it begins with a store whose clean mark is false, and no write sets it.
-#[tactic(auto, using(crate::proofs::Theorem::theorem_without_mark))]
 pub fn without_mark()
-    ensures { TheoremWithoutMark }
+    ensures theorem { TheoremWithoutMark }
+    ensures begins { UnmarkedBegins }
+    ensures finished { UnmarkedFinish }
+    ensures cut { UnmarkedCut }
 {}
 
 // What is no accident.
