@@ -16,7 +16,7 @@ use Rattle.cut.specs.Cut.{Write, store, size, expect, old, new, left, with_slot,
 use Rattle.cut.proofs.StatusLaws.{false_true, blank_is, valid_is, passed_is, passed_status}
 use Rattle.cut.proofs.PairLaws.{last_is}
 use Rattle.cut.proofs.CutLaws.{differ, front_parts, whole_by, torn_bytes, length_torn}
-use Rattle.cut.proofs.WrittenLaws.{Writes, new_size, new_bytes, new_header, new_payload, sizes_same, old_size, payload_small, fields_proper, expect_is, check_under, info_under, payload_under, sum_under, passes_under}
+use Rattle.cut.proofs.WrittenLaws.{WrittenInto, new_size, new_bytes, new_header, new_payload, sizes_same, old_size, payload_small, fields_proper, expect_is, check_under, info_under, payload_under, sum_under, passes_under}
 use Rattle.cut.proofs.NextLaws.{kept_slot, put_slot, put_decoder, put_slots}
 use Rattle.cut.proofs.LeftLaws.{blank_fails}
 use Rattle.creation.specs.Creation.{FirstWrite}
@@ -28,7 +28,7 @@ module _ (w : Write) (first : FirstWrite w) where
   unwritten : validate (old w) (expect w) ≡ SlotStatus.Blank
   unwritten = first.new_pair.blank w.index
 
-  pub writes : Writes 1 0 (next_number (store w) w.pair) w
+  pub writes : WrittenInto 1 0 (next_number (store w) w.pair) w
   writes =
       record {
         written = first.written;

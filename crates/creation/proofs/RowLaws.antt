@@ -23,7 +23,7 @@ use Rattle.cut.proofs.PairLaws.{shown_pair}
 use Rattle.cut.proofs.RowLaws.{rule_at}
 use Rattle.plan.specs.Promise.{NumberedPair, finished_pair}
 use Rattle.plan.proofs.FinishLaws.{row_put}
-use Rattle.creation.specs.Creation.{NeitherValid, NewPair, Creating}
+use Rattle.creation.specs.Creation.{NeitherJudged, NewPair, Creating}
 use Rattle.creation.proofs.PairLaws.{finished_sound}
 
 -- ---- without a Valid slot in pair 0
@@ -102,9 +102,9 @@ none_named : {v : PairVerdict} (vs : List PairVerdict) (volume page : Bool) → 
 none_named {v} vs volume page without_it demotes =
     rw demotes (idle_heal (Every.more {x = demoted volume v} (ap in_flight (demoted_none volume v (without_idle without_it)) ∙ without_idle without_it) (all_idle vs)) 0)
 
-pub neither_valid : NeitherValid
+pub neither_judged : NeitherJudged
 unfolding judgement verdicts row_rules first_tally first_verdicts
-neither_valid p ps never =
+neither_judged p ps never =
     let none = without (shown_pair p) (rule_at p.operator (shown (p ∷ ps)) 0) (valid_none (status p.a) _ (never SlotIndex.A))
     (valid_none (status p.b) _ (never SlotIndex.B)) in
     record {

@@ -16,28 +16,27 @@ use Rattle.plan.proofs.CorrectLaws.{all_typed}
 use Rattle.plan.proofs.FinishLaws.{row_put}
 use Rattle.history.specs.History.{Reached}
 use Rattle.history.proofs.Theorem.{start_mark}
-use Rattle.creation.specs.Creation.{NewPair, FirstWrite, Creating, NoStore, CreationTheorem}
+use Rattle.creation.specs.Creation.{NewPair, FirstWrite, Creating, NeitherValid, NeitherAnswered, NoStore, CreationTheorem}
 use Rattle.creation.specs.Laws.{ZerosAreBlank, AnyRowBegins, AnyPageIsWritten, VolumeIsWrittenLast, Begins, MadeBegins, WholeBegins}
 use Rattle.creation.proofs.PairLaws.{finished_sound, whole_sound, torn_not_valid, left_bytes}
-use Rattle.creation.proofs.RowLaws.{NeverValid, neither_valid, blank_never, Stage, row_of, stage_of, stage_put, all_sound, stage_numbered}
+use Rattle.creation.proofs.RowLaws.{NeverValid, neither_judged, blank_never, Stage, row_of, stage_of, stage_put, all_sound, stage_numbered}
 
 -- ---- without a store
 
--- A row of which the judge refuses nothing, and whose pair 0 has no Valid slot.
-no_store : (p : Pair) (ps : List Pair) → IsRow (p ∷ ps) → Every NumberedPair (p ∷ ps) → length (p ∷ ps) ≤ most_pairs
-    → ((index : SlotIndex) → NeverValid (status (slot_at index p)))
-    → NoStore (p ∷ ps)
-no_store p ps is_row numbered few never =
+pub neither_answered : NeitherAnswered
+neither_answered p ps few range numbered never =
     record {
-      answer = λ clean out room. judged_row (p ∷ ps) (omega arith) few (row_range is_row) clean (all_typed numbered) out room;
-      row_answer = λ clean. row_judged (p ∷ ps) (omega arith) few (row_range is_row) clean;
-      judged = neither_valid p ps never;
+      answer = λ clean out room. judged_row (p ∷ ps) (omega arith) few range clean (all_typed numbered) out room;
+      row_answer = λ clean. row_judged (p ∷ ps) (omega arith) few range clean;
+      judged = neither_judged p ps never;
     }
+
+new_neither : (p : Pair) → NewPair p → NeitherValid p
+new_neither p new index = blank_never (status (slot_at index p)) (new.blank index)
 
 half_made : (p : Pair) (ps : List Pair) → Creating (p ∷ ps) → NewPair p → length (p ∷ ps) ≤ most_pairs → NoStore (p ∷ ps)
 half_made p ps creating new few =
-    no_store p ps (row_of creating) (stage_numbered (stage_of creating)) few
-    (λ index. blank_never (status (slot_at index p)) (new.blank index))
+    neither_answered p ps few (row_range (row_of creating)) (stage_numbered (stage_of creating)) (new_neither p new)
 
 -- A first write that is cut, in the row.
 module _ (w : Write) (creating : Creating (store w)) (first : FirstWrite w) where
@@ -53,15 +52,14 @@ module _ (w : Write) (creating : Creating (store w)) (first : FirstWrite w) wher
   cut_few few = subst (λ (n : ℕ). n ≤ most_pairs) (same_length w.before w.pair (with_slot w.index (left w) w.pair) w.behind) few
 
 -- With one slot of a new pair written, the other one is Blank.
-neither : (p : Pair) (s : List ℕ) (o : SlotIndex) → NewPair p → NeverValid (status (slot_at o (with_slot o s p))) → (index : SlotIndex)
-    → NeverValid (status (slot_at index (with_slot o s p)))
+neither : (p : Pair) (s : List ℕ) (o : SlotIndex) → NewPair p → NeverValid (status (slot_at o (with_slot o s p))) → NeitherValid (with_slot o s p)
 neither p s SlotIndex.A new never SlotIndex.A = never
 neither p s SlotIndex.A new never SlotIndex.B = blank_never (status p.b) (new.blank SlotIndex.B)
 neither p s SlotIndex.B new never SlotIndex.A = blank_never (status p.a) (new.blank SlotIndex.A)
 neither p s SlotIndex.B new never SlotIndex.B = never
 
 not_both : (p : Pair) → NewPair p → SoundPair p → ⊥
-not_both p new sound = blank_never (status (slot_at sound.newer p)) (new.blank sound.newer) sound.info sound.valid
+not_both p new sound = new_neither p new sound.newer sound.info sound.valid
 
 -- Of a page: pair 0 was not written.
 page_none : (before : List Pair) (p q : Pair) (behind : List Pair) → is_empty before ≡ false → Stage (before ++ p ∷ behind) → NewPair p
@@ -69,14 +67,14 @@ page_none : (before : List Pair) (p q : Pair) (behind : List Pair) → is_empty 
     → length (before ++ q ∷ behind) ≤ most_pairs → NoStore (before ++ q ∷ behind)
 page_none [] p q behind page stage new is_row numbered few = absurd cc
 page_none (u ∷ before) p q behind page (Stage.unmade first rest) new is_row numbered few =
-    no_store u (before ++ q ∷ behind) is_row numbered few (λ index. blank_never (status (slot_at index u)) (first.blank index))
+    neither_answered u (before ++ q ∷ behind) few (row_range is_row) numbered (new_neither u first)
 page_none (u ∷ before) p q behind page (Stage.made (Every.more first rest)) new is_row numbered few =
     absurd (not_both p new (every_split before p behind rest).1)
 
-volume_none : (before : List Pair) (q : Pair) (behind : List Pair) → is_empty before ≡ true → ((index : SlotIndex) → NeverValid (status (slot_at index q)))
+volume_none : (before : List Pair) (q : Pair) (behind : List Pair) → is_empty before ≡ true → NeitherValid q
     → IsRow (before ++ q ∷ behind) → Every NumberedPair (before ++ q ∷ behind)
     → length (before ++ q ∷ behind) ≤ most_pairs → NoStore (before ++ q ∷ behind)
-volume_none [] q behind volume never is_row numbered few = no_store q behind is_row numbered few never
+volume_none [] q behind volume never is_row numbered few = neither_answered q behind few (row_range is_row) numbered never
 volume_none (u ∷ before) q behind volume never is_row numbered few = absurd cc
 
 volume_sound : (before : List Pair) (q : Pair) (behind : List Pair) → is_empty before ≡ true → SoundPair q → Stage (before ++ q ∷ behind)

@@ -7,13 +7,14 @@ use Rattle.std.specs.Prelude.{◌≡◌, Bool, true, false, List, ◌∷◌, ℕ
 use Rattle.slot.specs.declared.slot.SlotIndex.{SlotIndex}
 use Rattle.slot.specs.declared.slot.SlotInfo.{SlotInfo}
 use Rattle.slot.specs.declared.slot.SlotStatus.{SlotStatus}
+use Rattle.judge.specs.Operators.{operators_in_range}
 use Rattle.judge.specs.Judge.{judgement, most_pairs}
 use Rattle.judge.specs.Frames.{verdict_width, judge_frames}
 use Rattle.judge.specs.Records.{judge_records}
 use Rattle.judge.specs.Same.{mark}
 use Rattle.cut.specs.Store.{Every, Pair, slot_at, status, reads, shown, frames, SoundSlot, IsRow, Sound}
 use Rattle.cut.specs.Cut.{Write, store, size, old, new, left, after, Anywhere, next_number, Written, whole, Accident, is_empty}
-use Rattle.plan.specs.Promise.{finished}
+use Rattle.plan.specs.Promise.{NumberedPair, finished}
 
 -- ---- the writes
 
@@ -38,21 +39,30 @@ pub data Creating : List Pair → Type 0 where
 -- ---- what is concluded
 
 -- Under either mark the judgement is that it may not be written and that no slot is to be healed.
-pub record Unwritable (ps : List Pair) : Type 0 where
+pub record JudgedNoStore (ps : List Pair) : Type 0 where
   pub unwritable : (clean : Bool) → (judgement (shown ps) clean).writable ≡ false
   pub heal : (clean : Bool) → (judgement (shown ps) clean).heal ≡ None
-
--- It is where neither slot of pair 0 is Valid, whatever the other pairs hold.
-abbrev pub NeitherValid : Type 0
-NeitherValid =
-    (p : Pair) (ps : List Pair) → ((index : SlotIndex) (i : SlotInfo) → status (slot_at index p) ≡ SlotStatus.Valid i → ⊥) → Unwritable (p ∷ ps)
 
 -- The judge answers so, over frames and over the row of pairs.
 pub record NoStore (ps : List Pair) : Type 0 where
   pub answer : (clean : Bool) (out : List ℕ) → length out ≡ length ps * verdict_width
       → judge_frames (frames ps) (mark clean) (length out) ≡ Ok (judgement (shown ps) clean)
   pub row_answer : (clean : Bool) → judge_records (reads ps) clean (length ps) ≡ Ok (judgement (shown ps) clean)
-  pub judged : Unwritable ps
+  pub judged : JudgedNoStore ps
+
+-- Neither slot of the pair is Valid.
+abbrev pub NeitherValid : Pair → Type 0
+NeitherValid p = (index : SlotIndex) (i : SlotInfo) → status (slot_at index p) ≡ SlotStatus.Valid i → ⊥
+
+-- So it is where neither slot of pair 0 is, whatever the other pairs hold: the judgement of any row,
+abbrev pub NeitherJudged : Type 0
+NeitherJudged = (p : Pair) (ps : List Pair) → NeitherValid p → JudgedNoStore (p ∷ ps)
+
+-- and the answer on one of which the judge refuses nothing.
+abbrev pub NeitherAnswered : Type 0
+NeitherAnswered =
+    (p : Pair) (ps : List Pair) → length (p ∷ ps) ≤ most_pairs → operators_in_range true (shown (p ∷ ps)) ≡ true → Every NumberedPair (p ∷ ps)
+    → NeitherValid p → NoStore (p ∷ ps)
 
 pub record CreationTheorem : Type 0 where
   -- There is no store as long as pair 0 was not written,

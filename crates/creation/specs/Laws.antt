@@ -20,7 +20,7 @@ ZerosAreBlank =
     (s : Slot) → 9 ≤ s.expect.log2_slot_size → s.expect.log2_slot_size ≤ 16 → length s.bytes ≡ 2 ^ s.expect.log2_slot_size
     → take 128 s.bytes ≡ replicate 128 0 → status s ≡ SlotStatus.Blank
 
--- and of a pair that was not written nothing is asked but that its slots are.
+-- and of a pair that was not written nothing is asked but that its slots are, and are read as numbered in format 2.
 abbrev pub BlankIsNew : Type 0
 BlankIsNew =
     (p : Pair) → ((index : SlotIndex) → SoundSlot (slot_at index p)) → ((index : SlotIndex) → status (slot_at index p) ≡ SlotStatus.Blank)

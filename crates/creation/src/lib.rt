@@ -3,13 +3,14 @@
 // or the laws.
 #![tactic(auto)]
 
-ghost use Rattle.creation.specs.Creation.{NeitherValid, CreationTheorem};
+ghost use Rattle.creation.specs.Creation.{NeitherJudged, NeitherAnswered, CreationTheorem};
 ghost use Rattle.creation.specs.Laws.{ZerosAreBlank, BlankIsNew, AnyRowBegins, AnyPageIsWritten, VolumeIsWrittenLast, FirstIsPlanned, PlanIsFirst, MadeBegins, WholeBegins};
 
 // A store is there once the volume record stands whole, and not before.
-#[tactic(auto, using(crate::proofs::RowLaws::neither_valid, crate::proofs::Theorem::creation_theorem))]
+#[tactic(auto, using(crate::proofs::RowLaws::neither_judged, crate::proofs::Theorem::creation_theorem))]
 pub fn creation_theorem()
-    ensures neither_valid { NeitherValid }
+    ensures judged { NeitherJudged }
+    ensures answered { NeitherAnswered }
     ensures creation { CreationTheorem }
 {}
 
