@@ -1,5 +1,5 @@
 //! A store while it is created: zeros where a store was, then the first write of each pair, that of pair 0 last. What it
-//! holds, and what a host is told to write, beside what docs/FORMAT.md says ("What a correct write is").
+//! holds, and what a host is told to write, beside what docs/FORMAT.md says ("The creation of a store").
 
 use crate::answers::fill_frame;
 use crate::creation_slots::Held;
