@@ -12,7 +12,7 @@ use crate::part::{number, Fields};
 use crate::value::hex;
 
 // What is promised under either mark: of an older store while its pair 0 has a record,
-pub const OLDER_READ: &str = "each page of the older store is read as it was";
+const OLDER_READ: &str = "each page of the older store is read as it was";
 // and of the new one until every pair has a record.
 pub const NOT_WRITABLE: &str = "a store of which a pair has no record is not writable";
 const NONE_NAMED: &str = "no slot of it is named for healing";
@@ -90,15 +90,23 @@ impl Creation<'_> {
 
     /// The first promise that these answers do not keep.
     pub fn broken(&self, found: &[Judged; 2]) -> Option<&'static str> {
+        self.promises(found).into_iter().find(|(_, kept)| !kept).map(|(promise, _)| promise)
+    }
+
+    /// Whether these answers do not keep this promise.
+    pub fn breaks(&self, found: &[Judged; 2], promise: &str) -> bool {
+        self.promises(found).contains(&(promise, false))
+    }
+
+    /// Each promise, and whether these answers keep it.
+    fn promises(&self, found: &[Judged; 2]) -> [(&'static str, bool); 3] {
         let none = |value: usize| found.iter().all(|judged| judged.refusal == 0 && judged.judgement[value] == 0);
         let older = self.older.iter().enumerate().skip(1);
         let wins = |judged: &Judged, at: usize, slot: usize| {
             judged.verdicts.get(VERDICT * at + 1).is_some_and(|winner| usize::from(*winner) == slot + 1)
         };
         let read = found.iter().all(|judged| older.clone().all(|(at, slot)| wins(judged, at, *slot)));
-        let kept =
-            [(OLDER_READ, read), (NOT_WRITABLE, self.is_whole() || none(2)), (NONE_NAMED, self.is_whole() || none(0))];
-        kept.into_iter().find(|(_, kept)| !kept).map(|(promise, _)| promise)
+        [(OLDER_READ, read), (NOT_WRITABLE, self.is_whole() || none(2)), (NONE_NAMED, self.is_whole() || none(0))]
     }
 
     /// The store, and the pair that something was done to last.

@@ -1,7 +1,7 @@
 //! Hosts that write wrongly: each must be seen to break a promise, so the promises can be seen to be broken.
 
 use crate::creation::{pairs_written, slots_zeroed, Creation, SLOTS};
-use crate::creation_answers::{NOT_WRITABLE, OLDER_READ};
+use crate::creation_answers::NOT_WRITABLE;
 use crate::cut_records::clean_mark;
 use crate::cut_store;
 use crate::history::History;
@@ -106,9 +106,9 @@ const HOSTS: &[Host] = &[
     Host::new("writes a page under the mark", CONFIRMED, Fault::Pair(page_under_the_mark)),
     // Once the store is opened a torn page is damage to this one as well, but the mark counts wrongly before.
     Host::new("hands over the mark of the older record", COUNTS, Fault::Mark(mark_of_the_older)),
-    // With pair 0's record the others are lost pages of a store, which is writable without them.
+    // Beside a record of pair 0 a pair without one is a lost page, and the store is writable.
     Host::new("writes pair 0 first", NOT_WRITABLE, Fault::Order(volume_first)),
-    Host::new("zeroes the pages before pair 0", OLDER_READ, Fault::Order(pages_zeroed_first)),
+    Host::new("zeroes the pages before pair 0", NOT_WRITABLE, Fault::Order(pages_zeroed_first)),
 ];
 
 fn any_pair(rng: &mut Rng, history: &History) -> usize {
@@ -167,7 +167,7 @@ fn acts(zeros: Vec<(usize, usize)>, written: Vec<usize>) -> Vec<Act> {
 /// The trial of these hosts.
 pub struct Hosts {
     rng: Rng,
-    /// How many histories of a host broke a promise first.
+    /// How many histories and creations of a host broke a promise.
     broken: BTreeMap<(&'static str, &'static str), u64>,
 }
 
@@ -176,11 +176,11 @@ impl Hosts {
         Self { rng, broken: BTreeMap::new() }
     }
 
-    /// The promise that is broken first in a history or a creation of a host.
+    /// The promise that a host breaks: in a history the first, in a creation, which goes on until then, its own.
     fn broken_by(&mut self, host: &Host) -> Option<&'static str> {
         let store = random_store(&mut self.rng, &Library);
         match host.fault {
-            Fault::Order(order) => self.broken_in_creation(order, store),
+            Fault::Order(order) => self.breaks_in_creation(host.breaks, order, store).then_some(host.breaks),
             _ => self.broken_in_history(host, store),
         }
     }
@@ -198,14 +198,15 @@ impl Hosts {
         None
     }
 
-    fn broken_in_creation(
+    fn breaks_in_creation(
         &mut self,
+        promise: &str,
         order: fn(&mut Rng, usize) -> Vec<Act>,
         store: Vec<cut_store::Pair>,
-    ) -> Option<&'static str> {
+    ) -> bool {
         let acts = order(&mut self.rng, store.len());
         let mut creation = Creation::over(&Library, store);
-        acts.into_iter().find_map(|act| {
+        acts.into_iter().any(|act| {
             match act {
                 Act::Zero(at, slot) => creation.zero(at, slot, None),
                 Act::First(at) => {
@@ -213,7 +214,7 @@ impl Hosts {
                     creation.write(&write, None);
                 }
             }
-            creation.broken(&creation.judged_found())
+            creation.breaks(&creation.judged_found(), promise)
         })
     }
 }
