@@ -56,24 +56,30 @@ const NOT_SET: &str = "not set";
 const COUNTS: &str = "set, counts";
 const NOT_COUNTED: &str = "set, pair 0 in flight";
 
-/// By what the new record of pair 0 does to the clean mark, or would do where it is not whole.
-const SETS: &str = "cut that sets the mark";
-const CLEARS: &str = "cut that clears the mark";
-const KEEPS_SET: &str = "cut that keeps it set";
-const KEEPS_CLEARED: &str = "cut that keeps it cleared";
-const VOLUME_OLD: &str = "old";
-const VOLUME_HEADER: &str = "torn header, in flight";
-const VOLUME_COUNTS_OLDER: &str = "torn header that counts as older";
-const VOLUME_PAYLOAD: &str = "torn payload, in flight";
-const VOLUME_NEW: &str = "whole";
-const VOLUME_BY_BYTES: &[Answer] = &[
-    Answer::Decision(VOLUME_OLD),
-    Answer::Decision(VOLUME_HEADER),
-    Answer::Decision(VOLUME_COUNTS_OLDER),
-    Answer::Decision(VOLUME_PAYLOAD),
-    Answer::Decision(VOLUME_NEW),
-];
-const VOLUME_IN_A_SECTOR: &[Answer] = &[Answer::Decision(VOLUME_OLD), Answer::Decision(VOLUME_NEW)];
+/// What is left of pair 0, each by what the new record does to the clean mark.
+const VOLUME_OLD: &str = "cut of pair 0, old";
+const VOLUME_HEADER: &str = "cut of pair 0, torn header in flight";
+const VOLUME_COUNTS_OLDER: &str = "cut of pair 0, torn header that counts as older";
+const VOLUME_PAYLOAD: &str = "cut of pair 0, torn payload in flight";
+const VOLUME_NEW: &str = "cut of pair 0, whole";
+
+/// What a record of pair 0 does to the clean mark, or would do where it is not whole.
+pub const CHANGES: &[Answer] =
+    &[Answer::Decision(SETS), Answer::Decision(CLEARS), Answer::Decision(KEEPS_SET), Answer::Decision(KEEPS_CLEARED)];
+const SETS: &str = "sets the mark";
+const CLEARS: &str = "clears the mark";
+const KEEPS_SET: &str = "keeps it set";
+const KEEPS_CLEARED: &str = "keeps it cleared";
+
+/// By the mark before the write, and that of the new record.
+pub fn change(before: bool, after: bool) -> &'static str {
+    match (before, after) {
+        (false, true) => SETS,
+        (true, false) => CLEARS,
+        (true, true) => KEEPS_SET,
+        (false, false) => KEEPS_CLEARED,
+    }
+}
 
 const SLOT: &str = "slot written";
 const SIZE: &str = "slot of bytes";
@@ -123,10 +129,11 @@ pub const ASCENDING: &[Function] = &[
     Function::new(PAGE_OLDER, BY_BYTES),
     Function::new(PAGE_OLDER, &[Answer::Decision(OLDER_HEADER)]),
     Function::part(MARK, &[Answer::Decision(NOT_COUNTED)]),
-    Function::part(SETS, VOLUME_BY_BYTES),
-    Function::part(CLEARS, VOLUME_BY_BYTES),
-    Function::part(KEEPS_SET, VOLUME_BY_BYTES),
-    Function::part(KEEPS_CLEARED, VOLUME_BY_BYTES),
+    Function::part(VOLUME_OLD, CHANGES),
+    Function::part(VOLUME_HEADER, CHANGES),
+    Function::part(VOLUME_COUNTS_OLDER, CHANGES),
+    Function::part(VOLUME_PAYLOAD, CHANGES),
+    Function::part(VOLUME_NEW, CHANGES),
     Function::part(SIZE, &[SIZES[0], SIZES[1], SIZES[3]]),
     Function::part(SAME_CHECKSUM, &[Answer::Decision(FIRST), Answer::Decision(LATER)]),
 ];
@@ -138,10 +145,8 @@ pub const BY_SECTORS: &[Function] = &[
     Function::new(PAGE_BLANK, IN_SECTORS),
     Function::new(PAGE_OLDER, IN_SECTORS),
     Function::new(PAGE_OLDER, &[Answer::Decision(OLDER_PAYLOAD)]),
-    Function::part(SETS, VOLUME_IN_A_SECTOR),
-    Function::part(CLEARS, VOLUME_IN_A_SECTOR),
-    Function::part(KEEPS_SET, VOLUME_IN_A_SECTOR),
-    Function::part(KEEPS_CLEARED, VOLUME_IN_A_SECTOR),
+    Function::part(VOLUME_OLD, CHANGES),
+    Function::part(VOLUME_NEW, CHANGES),
     Function::part(SIZE, &SIZES),
     Function::part(SECTORS, &[Answer::Decision("none"), Answer::Decision("some"), Answer::Decision("all")]),
     Function::part(RECORD, &[Answer::Decision("one sector"), Answer::Decision("several sectors")]),
@@ -198,15 +203,6 @@ pub fn outcome(cutting: &Cutting, left: Left, write: &Write, tear: Tear) -> Answ
     })
 }
 
-fn change(write: &Write) -> &'static str {
-    match (write.marked, write.mark) {
-        (false, true) => SETS,
-        (true, false) => CLEARS,
-        (true, true) => KEEPS_SET,
-        (false, false) => KEEPS_CLEARED,
-    }
-}
-
 /// What is left of a write of pair 0, whose record lies in its header's sector.
 fn volume_left(left: Left) -> &'static str {
     match left {
@@ -234,7 +230,7 @@ pub fn count_cut(run: &mut Run, cutting: &Cutting, left: Left, write: &Write, te
         },
     );
     if write.pair == 0 {
-        add(change(write), volume_left(left));
+        add(volume_left(left), change(write.marked, write.mark));
     }
     match tear {
         Tear::Sectors(0) => add(SECTORS, "none"),

@@ -2,6 +2,7 @@
 
 use crate::answers::Left;
 use crate::counts::{Answer, Function};
+use crate::cut_outcomes::{change, CHANGES};
 use crate::cut_records::clean_mark;
 use crate::history::{History, Step};
 use crate::history_pair::{Whole, Write};
@@ -12,26 +13,10 @@ const BEGINS: [Answer; 2] = [Answer::Decision("mark not set"), Answer::Decision(
 const WITH_STORE: &str = "history begins with a store";
 const WITH_CREATION: &str = "history begins with a creation";
 
-const FREE: &str = "write of pair 0 where no slot is named";
-const HEALING: &str = "healing write of pair 0";
-const SETS: &str = "sets the mark, finished";
-const SETS_CUT: &str = "sets the mark, cut";
-const CLEARS: &str = "clears the mark, finished";
-const CLEARS_CUT: &str = "clears the mark, cut";
-const KEEPS_SET: &str = "keeps it set, finished";
-const KEEPS_SET_CUT: &str = "keeps it set, cut";
-const KEEPS_CLEARED: &str = "keeps it cleared, finished";
-const KEEPS_CLEARED_CUT: &str = "keeps it cleared, cut";
-const OF_VOLUME: &[Answer] = &[
-    Answer::Decision(SETS),
-    Answer::Decision(SETS_CUT),
-    Answer::Decision(CLEARS),
-    Answer::Decision(CLEARS_CUT),
-    Answer::Decision(KEEPS_SET),
-    Answer::Decision(KEEPS_SET_CUT),
-    Answer::Decision(KEEPS_CLEARED),
-    Answer::Decision(KEEPS_CLEARED_CUT),
-];
+const FREE: &str = "write of pair 0 where no slot is named, finished";
+const FREE_CUT: &str = "write of pair 0 where no slot is named, cut";
+const HEALING: &str = "healing write of pair 0, finished";
+const HEALING_CUT: &str = "healing write of pair 0, cut";
 
 const AFTER: [&str; 2] = ["after the write, mark not set", "after the write, mark set"];
 const NONE_NAMED: &str = "no slot is named";
@@ -48,8 +33,10 @@ const RESTING: &[Answer] = &[Answer::Decision(OF_PAIR_0), Answer::Decision(OF_A_
 pub const MARKS: &[Function] = &[
     Function::part(WITH_STORE, &BEGINS),
     Function::part(WITH_CREATION, &BEGINS),
-    Function::part(FREE, OF_VOLUME),
-    Function::part(HEALING, OF_VOLUME),
+    Function::part(FREE, CHANGES),
+    Function::part(FREE_CUT, CHANGES),
+    Function::part(HEALING, CHANGES),
+    Function::part(HEALING_CUT, CHANGES),
     Function::part(
         AFTER[0],
         &[Answer::Decision(NONE_NAMED), Answer::Decision(VOLUME_NAMED), Answer::Decision(PAGE_NAMED)],
@@ -59,25 +46,16 @@ pub const MARKS: &[Function] = &[
     Function::part(RESTS[1], RESTING),
 ];
 
-/// What a write of pair 0 does to the mark, or would do where it is cut.
-fn change(step: &Step, write: &Write) -> &'static str {
-    let finished = write.tear.is_none();
-    match (step.marked, clean_mark(&Whole::of(&write.bytes).record)) {
-        (false, true) if finished => SETS,
-        (false, true) => SETS_CUT,
-        (true, false) if finished => CLEARS,
-        (true, false) => CLEARS_CUT,
-        (true, true) if finished => KEEPS_SET,
-        (true, true) => KEEPS_SET_CUT,
-        (false, false) if finished => KEEPS_CLEARED,
-        (false, false) => KEEPS_CLEARED_CUT,
-    }
-}
-
 pub fn count_mark(run: &mut Run, history: &History, step: &Step, write: &Write) {
     let mut add = |name, answer| run.counts.add_part(name, Answer::Decision(answer));
     if write.pair == 0 {
-        add(if step.heals == 0 { FREE } else { HEALING }, change(step, write));
+        let written = match (step.heals, write.tear) {
+            (0, None) => FREE,
+            (0, Some(_)) => FREE_CUT,
+            (_, None) => HEALING,
+            (_, Some(_)) => HEALING_CUT,
+        };
+        add(written, change(step.marked, clean_mark(&Whole::of(&write.bytes).record)));
     }
     let mark = usize::from(history.mark());
     add(
