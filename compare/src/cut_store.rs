@@ -42,7 +42,7 @@ pub struct Write {
     pub record: Vec<u8>,
     /// The store's clean mark before the write.
     pub marked: bool,
-    /// The same where the new record stands whole: that of a volume record.
+    /// The store's clean mark once the new record stands whole.
     pub mark: bool,
     /// The header has the checksum that the winner has as its previous one.
     pub same_checksum: bool,
@@ -170,8 +170,8 @@ fn version(rng: &mut Rng, generation: u64, number: u64, previous: u32) -> Versio
     }
 }
 
-/// A correct write of any pair, of pair 0 where the clean mark is set. What counts for nothing in the slot below it is filled here: bytes after a blank header
-/// or after an older payload, anything or what is about to be written there.
+/// A correct write of any pair, of pair 0 where the clean mark is set. What counts for nothing in the slot below it is
+/// filled here: bytes after a blank header or after an older payload, anything or what is about to be written there.
 pub fn random_write(rng: &mut Rng, tried: &dyn Implementation, medium: Medium, store: &mut [Pair]) -> Write {
     let marked = clean_mark(&store[0].record);
     let written = if marked { 0 } else { medium.pair(rng, store.len()) };
