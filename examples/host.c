@@ -582,12 +582,12 @@ static const struct region {
 #define REGION_BLOCKS 6
 
 /* The writes of the made store, in this order, those of each operator numbered from 1: the pair, its generation, and the
- * entries of a page. */
+ * entries of a page. The first writes are those of the pages and then that of pair 0: without its record no store is there. */
 static const struct write {
     size_t pair;
     uint64_t generation;
     uint16_t entries;
-} writes[] = {{0, 1, 0}, {1, 1, 0}, {2, 1, 0}, {1, 2, 1}, {1, 3, 2}, {0, 2, 0}};
+} writes[] = {{1, 1, 0}, {2, 1, 0}, {0, 1, 0}, {1, 2, 1}, {1, 3, 2}, {0, 2, 0}};
 
 static uint32_t encode_entry(uint8_t *entry, uint32_t seq, const struct region *region, uint64_t table_end) {
     uint64_t start = table_end + region->start * BLOCK;
@@ -655,9 +655,11 @@ static int make_image(struct store *store) {
     return status;
 }
 
+/* The owner of the first volume record writes the pages before it. */
 static int make_store(const char *path) {
     struct store store = {.record = {[SIO_VOLUME_LOG2_BLOCK_SIZE] = LOG2_BLOCK,
                                      [SIO_VOLUME_LOG2_TABLE_SLOT_SIZE] = LOG2_BLOCK + 1,
+                                     [SIO_VOLUME_OWNER_GENERATION] = 1,
                                      [SIO_VOLUME_TABLE_OFFSET] = 2 * BLOCK,
                                      [SIO_VOLUME_CREATED_UNIX_S] = 1700000000,
                                      [SIO_VOLUME_TABLE_PAGES] = 2}};
