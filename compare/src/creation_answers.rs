@@ -12,7 +12,7 @@ use crate::part::{number, Fields};
 use crate::value::hex;
 
 // What is promised under either mark: of an older store while its pair 0 has a record,
-const OLDER_READ: &str = "each page of the older store is read as it was";
+pub const OLDER_READ: &str = "each page of the older store is read as it was";
 // and of the new one until every pair has a record.
 pub const NOT_WRITABLE: &str = "a store of which a pair has no record is not writable";
 const NONE_NAMED: &str = "no slot of it is named for healing";

@@ -1,7 +1,7 @@
 //! Hosts that write wrongly: each must be seen to break a promise, so the promises can be seen to be broken.
 
 use crate::creation::{pairs_written, slots_zeroed, Creation, SLOTS};
-use crate::creation_answers::NOT_WRITABLE;
+use crate::creation_answers::{NOT_WRITABLE, OLDER_READ};
 use crate::cut_records::clean_mark;
 use crate::cut_store;
 use crate::history::History;
@@ -109,6 +109,7 @@ const HOSTS: &[Host] = &[
     // Beside a record of pair 0 a pair without one is a lost page, and the store is writable.
     Host::new("writes pair 0 first", NOT_WRITABLE, Fault::Order(volume_first)),
     Host::new("zeroes the pages before pair 0", NOT_WRITABLE, Fault::Order(pages_zeroed_first)),
+    Host::new("zeroes the pages before pair 0", OLDER_READ, Fault::Order(pages_zeroed_first)),
 ];
 
 fn any_pair(rng: &mut Rng, history: &History) -> usize {
