@@ -524,6 +524,9 @@ uint32_t sio_winner_payload(const uint8_t *a, size_t a_len, const uint8_t *b, si
  * What follows is the protocol of a host that opens, writes, heals and closes a store. Only such a host has what sio_next_write
  * promises.
  *
+ * Make. Zeros are written to both slots of pair 0 and then to those of the pages, then each page's first record, and pair 0's
+ * last, each by the plan of sio_plan_write. Where it was cut before that record stands whole, it is begun anew.
+ *
  * Open.
  *   1. Read both slots of pair 0. Its record is the payload that sio_winner_payload names; sio_volume_decode gives the fields,
  *      the clean mark among them, and sio_check_file_len holds the table to the file. Where there is no winner or one of them
@@ -606,10 +609,10 @@ uint32_t sio_judge(const uint8_t *frames, size_t frames_len, uint8_t clean, uint
  * times; where no slot is named the mark counts as it was read, and after a finished write of pair 0 it is that record's. A
  * write that heals may be cut too, any number of times.
  *
- * Promised of a store that is made: from slots that are Blank, as zeros are, each pair written as sio_plan_write says, the pages
- * in any order and pair 0 last, it is judged not writable under either clean mark, and no slot is named, until the record of
- * pair 0 stands whole, wherever a write is cut without an accident (docs/FORMAT.md, "The creation of a store"). Then it is
- * sound. Where the slots hold an older store, those of pair 0 are zeroed first.
+ * Promised of a store that is made: from slots that are Blank, as zeros are, and are read as numbered in format 2, each pair
+ * written as sio_plan_write says, with a payload that its decoder accepts, the pages in any order and pair 0 last, it is judged
+ * not writable under either clean mark, and no slot is named, until the record of pair 0 stands whole, wherever a write is cut
+ * without an accident (docs/FORMAT.md, "The creation of a store"). Then it is sound.
  */
 
 /* The number of an operator's next write: one above the highest of all numbered slots of its pairs, 1 where there is none. The
