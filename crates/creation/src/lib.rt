@@ -6,7 +6,7 @@
 ghost use Rattle.creation.specs.Creation.{NeitherJudged, NeitherAnswered, CreationTheorem};
 ghost use Rattle.creation.specs.Laws.{ZerosAreBlank, BlankIsNew, AnyRowBegins, AnyPageIsWritten, VolumeIsWrittenLast, FirstIsPlanned, PlanIsFirst, MadeBegins, WholeBegins};
 
-// A store is there once the volume record stands whole, and not before.
+/// A store is there once the volume record stands whole, and not before.
 #[tactic(auto, using(crate::proofs::RowLaws::neither_judged, crate::proofs::Theorem::creation_theorem))]
 pub fn creation_theorem()
     ensures judged { NeitherJudged }
@@ -14,7 +14,7 @@ pub fn creation_theorem()
     ensures creation { CreationTheorem }
 {}
 
-// What it asks for, and no more.
+/// What it asks for, and no more.
 #[tactic(auto, using(crate::proofs::Theorem::zeros_are_blank))]
 pub fn asked_for()
     ensures zeros { ZerosAreBlank }
@@ -24,14 +24,14 @@ pub fn asked_for()
     ensures volume { VolumeIsWrittenLast }
 {}
 
-// `plan_write` gives its writes, and what it gives to a pair that was not written is one.
+/// `plan_write` gives its writes, and what it gives to a pair that was not written is one.
 #[tactic(auto, using(crate::proofs::PlanLaws::first_is_planned))]
 pub fn plans()
     ensures planned { FirstIsPlanned }
     ensures first { PlanIsFirst }
 {}
 
-// With the store that it makes a history begins.
+/// With the store that it makes a history begins.
 #[tactic(auto, using(crate::proofs::Theorem::made_begins, crate::proofs::Theorem::whole_begins))]
 pub fn begins()
     ensures made { MadeBegins }

@@ -7,7 +7,7 @@
 ghost use Rattle.creation_examples.specs.Writes.{StoresWritten, FirstWrites, StoresCreating, Made, Planned, MetIsEnough, PageMet, VolumeMet, StandsWhole};
 ghost use Rattle.creation_examples.specs.States.{PageStates, VolumeStates};
 
-// Three first writes lead from Blank slots to a sound store, with which a history begins.
+/// Three first writes lead from Blank slots to a sound store, with which a history begins.
 #[tactic(auto, using(crate::proofs::Writes::first_writes, crate::proofs::Writes::stores_creating, crate::proofs::Writes::made))]
 pub fn reached()
     ensures stores { StoresWritten }
@@ -16,13 +16,13 @@ pub fn reached()
     ensures made { Made }
 {}
 
-// `plan_write` gives each of them.
+/// `plan_write` gives each of them.
 #[tactic(auto, using(crate::proofs::Writes::planned))]
 pub fn planned()
     ensures { Planned }
 {}
 
-// The hypotheses are those of the theorem, and they are met at seven cuts, on both sides of the byte that makes the volume record whole.
+/// The hypotheses are those of the theorem, and they are met at seven cuts, on both sides of the byte that makes the volume record whole.
 #[tactic(auto, using(crate::proofs::Writes::met_is_enough, crate::proofs::Writes::page_met, crate::proofs::Writes::volume_met, crate::proofs::Writes::volume_whole))]
 pub fn met()
     ensures enough { MetIsEnough }
@@ -31,7 +31,7 @@ pub fn met()
     ensures whole { StandsWhole }
 {}
 
-// What is judged and read back at each step and after each cut.
+/// What is judged and read back at each step and after each cut.
 #[tactic(auto, using(crate::proofs::Computed::page_states, crate::proofs::Computed::volume_states))]
 pub fn states()
     ensures page { PageStates }
