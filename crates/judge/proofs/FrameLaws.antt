@@ -1,9 +1,8 @@
 -- What the judge over frames answers is the judge's answer over their row, and its verdicts, four bytes each, are those bytes joined.
 use Rattle.std.proofs.Common.{◌≡◌, refl, ap, ◌∙◌, Bool, true, false, not, List, [], ◌∷◌, ◌++◌, ℕ, zero, suc, ◌+◌, ◌-◌, ◌*◌, ◌/◌, ◌%◌, ◌<◌, ◌≤◌, ◌&&◌, length, get_or, set, take, drop, map, flat_map, slice_get, arith, eqb, leb, ltb, eqb-true, eq-eqb, ne_eqb, lt-ltb, Some, None}
-use Rattle.std.specs.Int.{from_bool}
 use Rattle.judge.specs.declared.verdict.PairVerdict.{PairVerdict}
 use Rattle.judge.specs.declared.verdict.JudgeError.{JudgeError}
-use Rattle.judge.specs.Judge.{most_pairs, error}
+use Rattle.judge.specs.Judge.{most_pairs, error, RowLent, row_error}
 use Rattle.judge.specs.Frames.{frame_width, verdict_width, pair_count, frames_in_range, verdict_bytes, verdict_from, verdict_cells, row_bytes, frames_error}
 
 -- Both tests say the same. The library has none of these.
@@ -13,23 +12,32 @@ same_test m n j k there back = grind (arith, there, back)
 same_order : (m n j k : ℕ) → (m < n → j < k) → (j < k → m < n) → ltb m n ≡ ltb j k
 same_order m n j k there back = grind (arith, there, back)
 
--- A part of a frame follows the whole ones.
-abbrev pub has_rest : List ℕ → Bool
-has_rest s = not (eqb (length s % frame_width) 0)
+-- The whole frames as a row, where `rest` says that a part of one follows.
+abbrev pub lent_as : List ℕ → ℕ → ℕ → Bool → RowLent
+lent_as s clean room rest =
+    record {
+      pairs = pair_count s;
+      rest = rest;
+      fits = eqb room (pair_count s * verdict_width);
+      within = leb clean 1 && frames_in_range s;
+    }
 
--- The error by the whole frames, and by whether a part of one follows.
+-- The error is that of the row.
 pub by_row : (s : List ℕ) (clean room : ℕ)
-    → frames_error s clean room
-    ≡ error (not (has_rest s) && eqb (pair_count s) 0) (ltb (most_pairs - from_bool (has_rest s)) (pair_count s)) (not (has_rest s))
-    (eqb room (pair_count s * verdict_width)) (leb clean 1 && frames_in_range s)
+    → frames_error s clean room ≡ row_error (lent_as s clean room (not (eqb (length s % frame_width) 0)))
 unfolding frames_error
 by_row s clean room = go (eqb (length s % frame_width) 0) refl
   where
     go : (whole : Bool) → eqb (length s % frame_width) 0 ≡ whole
-        → error (eqb (length s) 0) (ltb (most_pairs * frame_width) (length s)) whole (eqb room (pair_count s * verdict_width))
-        (leb clean 1 && frames_in_range s)
-        ≡ error (not (not whole) && eqb (pair_count s) 0) (ltb (most_pairs - from_bool (not whole)) (pair_count s)) (not (not whole))
-        (eqb room (pair_count s * verdict_width)) (leb clean 1 && frames_in_range s)
+        → error
+        (record {
+          empty = eqb (length s) 0;
+          over = ltb (most_pairs * frame_width) (length s);
+          whole = whole;
+          fits = eqb room (pair_count s * verdict_width);
+          within = leb clean 1 && frames_in_range s;
+        })
+        ≡ row_error (lent_as s clean room (not whole))
     go true is =
         let whole = eqb-true (length s % frame_width) 0 is in
         let over = same_order (most_pairs * frame_width) (length s) most_pairs (pair_count s) (λ is. omega (arith, is)) (λ is. omega (arith, is)) in
@@ -40,10 +48,7 @@ by_row s clean room = go (eqb (length s % frame_width) 0) refl
         let over = same_order (most_pairs * frame_width) (length s) (most_pairs - 1) (pair_count s) (λ is. omega (arith, is)) (λ is. omega (arith, is, part)) in
         rw (some, over)
 
-pub whole : (s : List ℕ) (clean room : ℕ) → length s % frame_width ≡ 0
-    → frames_error s clean room
-    ≡ error (eqb (pair_count s) 0) (ltb most_pairs (pair_count s)) true (eqb room (pair_count s * verdict_width))
-    (leb clean 1 && frames_in_range s)
+pub whole : (s : List ℕ) (clean room : ℕ) → length s % frame_width ≡ 0 → frames_error s clean room ≡ row_error (lent_as s clean room false)
 whole s clean room frames_are = by_row s clean room ∙ rw (eq-eqb (length s % frame_width) 0 frames_are)
 
 -- More bytes than the most pairs have are too many, whatever they hold.

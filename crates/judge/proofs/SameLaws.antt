@@ -1,6 +1,6 @@
 -- The frames filled from a row of pairs stand for that row, so that the judge over them judges it: there is an error only for an empty row,
 -- another room than the verdicts need, and a mark out of range.
-use Rattle.std.proofs.Common.{◌≡◌, refl, sym, ap, ap₂, ◌∙◌, Bool, true, ◌&&◌, List, [], ◌∷◌, ◌++◌, ℕ, ◌*◌, arith, eqb, leb, ltb, length, map, length-append, take_at, drop_at, Option, Some, None}
+use Rattle.std.proofs.Common.{◌≡◌, refl, sym, ap, ap₂, ◌∙◌, Bool, true, false, ◌&&◌, List, [], ◌∷◌, ◌++◌, ℕ, ◌*◌, arith, eqb, leb, length, map, length-append, take_at, drop_at, Option, Some, None}
 use Rattle.std.specs.List.{list_all}
 use Rattle.std.specs.Simd.{first_chunks}
 use Rattle.codec.proofs.ReadLaws.{Rest, start, onward}
@@ -11,7 +11,7 @@ use Rattle.judge.specs.declared.verdict.JudgeError.{JudgeError}
 use Rattle.judge.specs.declared.records.PairRead.{PairRead}
 use Rattle.judge.specs.Part.{part_width, part_bytes, part_at, part_shown, is_in_range}
 use Rattle.judge.specs.Operators.{operators_in_range}
-use Rattle.judge.specs.Judge.{verdicts, judgement, most_pairs, error, unless, left}
+use Rattle.judge.specs.Judge.{verdicts, judgement, row_error, unless, left}
 use Rattle.judge.specs.Records.{pair_read, records_error, judge_records, records_left}
 use Rattle.judge.specs.Frames.{operator_place, frame_width, verdict_width, operator_in, pair_from, pair_in_range, pair_count, frames, row, row_bytes, frames_error, judge_frames, frames_left}
 use Rattle.judge.specs.Same.{filled, Framed, part_read, frame_of, frames_of, pairs_of, Fits, AllFit, mark, SameJudge, IgnoredFields}
@@ -84,8 +84,13 @@ length-pairs (f ∷ fs) = simp (length-pairs fs)
 -- The error of so many pairs.
 abbrev pub framed_error : List PairRead → ℕ → ℕ → Option JudgeError
 framed_error ps clean room =
-    error (eqb (length ps) 0) (ltb most_pairs (length ps)) true (eqb room (length ps * verdict_width))
-    (leb clean 1 && operators_in_range true (map pair_read ps))
+    row_error
+    (record {
+      pairs = length ps;
+      rest = false;
+      fits = eqb room (length ps * verdict_width);
+      within = leb clean 1 && operators_in_range true (map pair_read ps);
+    })
 
 pub count-is : (fs : List Framed) → pair_count (frames_of fs) ≡ length fs
 count-is fs = omega (arith, length-frames fs)
@@ -100,7 +105,9 @@ module _ (fs : List Framed) (fits : AllFit fs) where
   error-is : (clean room : ℕ) → frames_error (frames_of fs) clean room ≡ framed_error (pairs_of fs) clean room
   error-is clean room =
       whole (frames_of fs) clean room (omega (arith, length-frames fs))
-      ∙ ap₂ (λ (n : ℕ) (within : Bool). error (eqb n 0) (ltb most_pairs n) true (eqb room (n * verdict_width)) within) (count-is fs ∙ sym (length-pairs fs))
+      ∙ ap₂
+      (λ (n : ℕ) (within : Bool). row_error (record { pairs = n; rest = false; fits = eqb room (n * verdict_width); within = within }))
+      (count-is fs ∙ sym (length-pairs fs))
       (ap₂ (λ (parts : Bool) (row : List Pair). leb clean 1 && (parts && operators_in_range true row))
       (ap (list_all pair_in_range) (frames-are fs) ∙ all-in-range fs fits) (row-is fs fits))
 

@@ -1,7 +1,6 @@
 -- The judge over frames in bytes (docs/FORMAT.md, "Frames", "The store verdict" and "Refusals"). A pair's frame: the part of slot A, that
 -- of slot B, and the pair's operator.
-use Rattle.std.specs.Prelude.{Bool, true, ◌&&◌, List, [], ◌∷◌, ℕ, ◌+◌, ◌*◌, ◌/◌, ◌%◌, ◌==◌, nat_le, nat_lt, length, get_or, map, flat_map, Option, Result}
-use Rattle.std.specs.List.{list_all}
+use Rattle.std.specs.Prelude.{Bool, ◌&&◌, List, [], ◌∷◌, ℕ, ◌+◌, ◌*◌, ◌/◌, ◌%◌, ◌==◌, nat_le, nat_lt, length, get_or, map, flat_map, Option, Result}
 use Rattle.std.specs.Simd.{first_chunks}
 use Rattle.slot.specs.declared.slot.SlotIndex.{SlotIndex}
 use Rattle.judge.specs.declared.pairs.Pair.{Pair}
@@ -12,10 +11,9 @@ use Rattle.judge.specs.declared.verdict.JudgeError.{JudgeError}
 use Rattle.judge.specs.Part.{part_width, part_at, part_shown, is_in_range}
 use Rattle.slot.specs.Numbers.{choice_number}
 use Rattle.judge.specs.Values.{standing_number, slot_verdict_number, standing_from, choice_from, slot_verdict_from}
-use Rattle.judge.specs.Operators.{operators_in_range}
 use Rattle.judge.specs.Numbers.{numbers}
 use Rattle.judge.specs.Maxima.{no_maxima, note_all}
-use Rattle.judge.specs.Judge.{verdicts, judgement, most_pairs, error, unless, left}
+use Rattle.judge.specs.Judge.{verdicts, judgement, most_pairs, error, row_in_range, unless, left}
 
 -- ---- a pair's frame
 
@@ -47,7 +45,7 @@ row s = map pair_from (frames s)
 
 -- Their values are in range.
 abbrev pub frames_in_range : List ℕ → Bool
-frames_in_range s = list_all pair_in_range (frames s) && operators_in_range true (row s)
+frames_in_range s = row_in_range pair_in_range pair_from (frames s)
 
 -- ---- a pair's verdict
 
@@ -80,8 +78,14 @@ row_bytes vs = flat_map verdict_bytes vs
 -- The error, where so many bytes are lent for the verdicts. Pairs are too many by their bytes, whole or not.
 unfoldable pub frames_error : List ℕ → ℕ → ℕ → Option JudgeError
 frames_error s clean room =
-    error (length s == 0) (nat_lt (most_pairs * frame_width) (length s)) (length s % frame_width == 0) (room == pair_count s * verdict_width)
-    (nat_le clean 1 && frames_in_range s)
+    error
+    (record {
+      empty = length s == 0;
+      over = nat_lt (most_pairs * frame_width) (length s);
+      whole = length s % frame_width == 0;
+      fits = room == pair_count s * verdict_width;
+      within = nat_le clean 1 && frames_in_range s;
+    })
 
 -- What it answers,
 unfoldable pub judge_frames : List ℕ → ℕ → ℕ → Result Judgement JudgeError

@@ -1,6 +1,8 @@
 -- The verdict on the whole store (docs/FORMAT.md, "The store verdict"; judge.rs): two passes over the row of its pairs. Pair 0 is the
 -- volume record, the others are table pages.
-use Rattle.std.specs.Prelude.{◌≡◌, Bool, false, not, ◌&&◌, ◌||◌, List, [], ◌∷◌, ℕ, zero, suc, ◌+◌, ◌==◌, if◌then◌else◌, Option, Some, None, Result, Ok, Err}
+use Rattle.std.specs.Prelude.{◌≡◌, Bool, true, false, not, ◌&&◌, ◌||◌, List, [], ◌∷◌, ℕ, zero, suc, ◌+◌, ◌-◌, ◌==◌, nat_lt, map, if◌then◌else◌, Option, Some, None, Result, Ok, Err}
+use Rattle.std.specs.Int.{from_bool}
+use Rattle.std.specs.List.{list_all}
 use Rattle.std.specs.Option.{option_or}
 use Rattle.slot.specs.declared.slot.SlotIndex.{SlotIndex}
 use Rattle.judge.specs.declared.pairs.Pair.{Pair}
@@ -13,6 +15,7 @@ use Rattle.judge.specs.declared.verdict.Tally.{Tally}
 use Rattle.judge.specs.declared.verdict.StoreRules.{StoreRules}
 use Rattle.judge.specs.declared.verdict.Judgement.{Judgement}
 use Rattle.judge.specs.declared.verdict.JudgeError.{JudgeError}
+use Rattle.judge.specs.Operators.{operators_in_range}
 use Rattle.judge.specs.Owners.{owners, any_two_differ}
 use Rattle.judge.specs.Verdict.{by_index, no_winner, pair_verdict, is_in_flight, in_flight, is_confirmed, is_refused, is_unconfirmed, is_without_winner}
 
@@ -139,16 +142,51 @@ judgement ps clean =
 abbrev pub most_pairs : ℕ
 most_pairs = 112
 
--- What is answered with an error, in this order: no pair, more than are judged, bytes that are no whole pairs, another number of verdicts, a
--- value out of range.
-abbrev pub error : Bool → Bool → Bool → Bool → Bool → Option JudgeError
-error empty over whole fits within =
-    if empty then Some JudgeError.Empty
-    else if over then Some JudgeError.TooManyPairs
-    else if not whole then Some JudgeError.OutOfRange
-    else if not fits then Some JudgeError.OutputLength
-    else if not within then Some JudgeError.OutOfRange
+-- What the refusals ask of what is lent.
+pub record Lent : Type 0 where
+  -- There is no pair.
+  pub empty : Bool
+  -- There are more pairs than are judged.
+  pub over : Bool
+  -- All pairs are whole.
+  pub whole : Bool
+  -- There are as many verdicts as pairs.
+  pub fits : Bool
+  -- The mark and the pairs' values are in range.
+  pub within : Bool
+
+-- What is answered with an error, in this order.
+abbrev pub error : Lent → Option JudgeError
+error lent =
+    if lent.empty then Some JudgeError.Empty
+    else if lent.over then Some JudgeError.TooManyPairs
+    else if not lent.whole then Some JudgeError.OutOfRange
+    else if not lent.fits then Some JudgeError.OutputLength
+    else if not lent.within then Some JudgeError.OutOfRange
     else None
+
+-- The same of a row of whole pairs.
+pub record RowLent : Type 0 where
+  pub pairs : ℕ
+  -- A part of a pair follows them, which the limit counts as a pair.
+  pub rest : Bool
+  pub fits : Bool
+  pub within : Bool
+
+abbrev pub row_error : RowLent → Option JudgeError
+row_error row =
+    error
+    (record {
+      empty = not row.rest && (row.pairs == 0);
+      over = nat_lt (most_pairs - from_bool row.rest) row.pairs;
+      whole = not row.rest;
+      fits = row.fits;
+      within = row.within;
+    })
+
+-- The values of a row are in range: those of each pair's slots, by what it is read from, and the operators.
+abbrev pub row_in_range : {P : Type 0} → (P → Bool) → (P → Pair) → List P → Bool
+row_in_range within shown ps = list_all within ps && operators_in_range true (map shown ps)
 
 -- The answer,
 abbrev pub unless : {A : Type 0} → Option JudgeError → A → Result A JudgeError

@@ -1,5 +1,5 @@
 -- The judge over a row of pairs as they were read (docs/FORMAT.md, "The store verdict"; judge.rs).
-use Rattle.std.specs.Prelude.{Bool, true, List, ℕ, ◌==◌, nat_lt, length, map, Option, Some, None, Result}
+use Rattle.std.specs.Prelude.{Bool, true, false, List, ℕ, ◌==◌, length, map, Option, Some, None, Result}
 use Rattle.slot.specs.declared.slot.SlotStatus.{SlotStatus}
 use Rattle.slot.specs.declared.slot.HeaderFacts.{HeaderFacts}
 use Rattle.slot.specs.declared.slot.NumberedHeader.{NumberedHeader}
@@ -12,7 +12,7 @@ use Rattle.judge.specs.declared.records.SlotRead.{SlotRead}
 use Rattle.judge.specs.declared.records.PairRead.{PairRead}
 use Rattle.judge.specs.Part.{version_of_info}
 use Rattle.judge.specs.Operators.{operators_in_range}
-use Rattle.judge.specs.Judge.{verdicts, judgement, most_pairs, error, unless, left}
+use Rattle.judge.specs.Judge.{verdicts, judgement, row_error, unless, left}
 
 -- ---- what the judge is told of a slot, and of a pair
 
@@ -40,7 +40,13 @@ pair_read p = record { a = shown_read p.a; b = shown_read p.b; operator = p.oper
 -- The error, where so many verdicts are lent.
 abbrev pub records_error : List PairRead → ℕ → Option JudgeError
 records_error ps room =
-    error (length ps == 0) (nat_lt most_pairs (length ps)) true (room == length ps) (operators_in_range true (map pair_read ps))
+    row_error
+    (record {
+      pairs = length ps;
+      rest = false;
+      fits = room == length ps;
+      within = operators_in_range true (map pair_read ps);
+    })
 
 -- What it answers,
 unfoldable pub judge_records : List PairRead → Bool → ℕ → Result Judgement JudgeError

@@ -1,10 +1,8 @@
 // The judge of a row of pairs, whatever they and the lent verdicts are kept in. The row is gone through four times: for the ranges and
 // the highest numbers, for each pair's own verdict, for the rules of the whole store, and for the winners' owners. Pair 0 is the volume
 // record.
-ghost use Rattle.std.specs.Prelude.{◌≡◌, ◌<◌, ◌≤◌, ◌==◌, not, ◌&&◌, ◌-◌, nat_le, nat_lt, ℕ, Bool, List, if◌then◌else◌, length, map, true, Some, None, slice_get, slice_set, OnOk, OnErr};
-ghost use Rattle.std.specs.List.{list_all};
+ghost use Rattle.std.specs.Prelude.{◌≡◌, ◌<◌, ◌≤◌, ◌==◌, ◌&&◌, nat_le, ℕ, Bool, List, if◌then◌else◌, length, map, true, Some, None, slice_get, slice_set, OnOk, OnErr};
 ghost use Rattle.std.specs.Borrow.{GName};
-ghost use Rattle.std.specs.Int.{from_bool};
 ghost use Rattle.judge.specs.declared.pairs.Pair.{Pair};
 ghost use Rattle.judge.specs.declared.verdict.PairVerdict.{PairVerdict};
 ghost use Rattle.judge.specs.Operators.{operators_in_range};
@@ -14,7 +12,7 @@ ghost use Rattle.judge.specs.Numbers.{number, numbers};
 ghost use Rattle.judge.specs.Verdict.{by_index};
 ghost use Rattle.judge.specs.Owners.{owner, owners, any_two_differ};
 ghost use Rattle.judge.specs.Passes.{verdict_by, verdicts_by, no_tally, tallies, heals};
-ghost use Rattle.judge.specs.Judge.{volume_verdict, last_verdicts, judgement, verdicts, most_pairs, error, unless};
+ghost use Rattle.judge.specs.Judge.{volume_verdict, last_verdicts, judgement, verdicts, row_error, row_in_range, unless};
 
 use crate::numbers::{Counts, Maxima, Notes, Own};
 use crate::operators;
@@ -84,7 +82,7 @@ pub(crate) trait Verdicts {
 // Whether all values of the row are in range; notes its numbers, all of them if they are.
 #[inline(always)]
 fn note<P: ReadPair, C: Notes>(pairs: &[P], notes: &mut C) -> bool
-    ensures range { result ≡ list_all P.within pairs.now && operators_in_range true (map P.shown pairs.now) }
+    ensures range { result ≡ row_in_range P.within P.shown pairs.now }
     ensures noted { result ≡ true → notes.new ≡ note_pairs C.noted notes.old (map P.shown pairs.now) }
 {
     for (i, p) in pairs.iter().enumerate() {
@@ -163,7 +161,7 @@ pub(crate) fn admit<P: ReadPair, C: Notes>(
     room: bool,
     notes: &mut C,
 ) -> Result<(), JudgeError>
-    ensures value { result ≡ unless (error (not rest && length pairs.now == 0) (nat_lt (most_pairs - from_bool rest) (length pairs.now)) (not rest) room (nat_le clean 1 && (list_all P.within pairs.now && operators_in_range true (map P.shown pairs.now)))) tt }
+    ensures value { result ≡ unless (row_error (record { pairs = length pairs.now; rest = rest; fits = room; within = nat_le clean 1 && row_in_range P.within P.shown pairs.now })) tt }
     ensures range { OnOk result (operators_in_range true (map P.shown pairs.now) ≡ true) }
     ensures noted { OnOk result (notes.new ≡ note_pairs C.noted notes.old (map P.shown pairs.now)) }
 {
@@ -221,7 +219,7 @@ pub(crate) fn judge<P: ReadPair, V: Verdicts>(
     clean: u8,
     out: &mut V,
 ) -> Result<Judgement, JudgeError>
-    ensures value { result ≡ unless (error (not rest && length pairs.now == 0) (nat_lt (most_pairs - from_bool rest) (length pairs.now)) (not rest) (V.fitting out.old (length pairs.now)) (nat_le clean 1 && (list_all P.within pairs.now && operators_in_range true (map P.shown pairs.now)))) (judgement (map P.shown pairs.now) (clean == 1)) }
+    ensures value { result ≡ unless (row_error (record { pairs = length pairs.now; rest = rest; fits = V.fitting out.old (length pairs.now); within = nat_le clean 1 && row_in_range P.within P.shown pairs.now })) (judgement (map P.shown pairs.now) (clean == 1)) }
     ensures cells { OnOk result (V.cells out.new ≡ map V.cell (verdicts (map P.shown pairs.now) (clean == 1))) }
     ensures kept { OnErr result (out.new ≡ out.old) }
     ensures place { V.place out.new ≡ V.place out.old }
@@ -252,7 +250,7 @@ pub(crate) fn maxima<P: ReadPair>(
     clean: u8,
     operator: u8,
 ) -> Result<Maxima, JudgeError>
-    ensures { result ≡ unless (error (not rest && length pairs.now == 0) (nat_lt (most_pairs - from_bool rest) (length pairs.now)) (not rest) true (nat_le clean 1 && (list_all P.within pairs.now && operators_in_range true (map P.shown pairs.now)))) (note_all no_maxima (numbers operator (map P.shown pairs.now))) }
+    ensures { result ≡ unless (row_error (record { pairs = length pairs.now; rest = rest; fits = true; within = nat_le clean 1 && row_in_range P.within P.shown pairs.now })) (note_all no_maxima (numbers operator (map P.shown pairs.now))) }
 {
     let mut own = Own::new(operator);
     admit(pairs, rest, clean, true, &mut own)?;
@@ -304,7 +302,7 @@ pub(crate) fn heal<P: ReadPair>(
     rest: bool,
     clean: u8,
 ) -> Result<Option<(usize, SlotIndex)>, JudgeError>
-    ensures { result ≡ unless (error (not rest && length pairs.now == 0) (nat_lt (most_pairs - from_bool rest) (length pairs.now)) (not rest) true (nat_le clean 1 && (list_all P.within pairs.now && operators_in_range true (map P.shown pairs.now)))) (judgement (map P.shown pairs.now) (clean == 1)).heal }
+    ensures { result ≡ unless (row_error (record { pairs = length pairs.now; rest = rest; fits = true; within = nat_le clean 1 && row_in_range P.within P.shown pairs.now })) (judgement (map P.shown pairs.now) (clean == 1)).heal }
 {
     let mut counts = Counts::new();
     admit(pairs, rest, clean, true, &mut counts)?;
