@@ -129,6 +129,6 @@ own-from c (p ∷ ps) =
     ap (λ (d : Own). (note_pairs note_own d ps).maxima) (own-step c p)
     ∙ own-from (record { operator = c.operator; maxima = note (note c.maxima (number_for c.operator p p.a)) (number_for c.operator p p.b) }) ps
 
-pub own-same : (o : ℕ) (ps : List Pair)
+pub own_same : (o : ℕ) (ps : List Pair)
     → (note_pairs note_own (no_own o) ps).maxima ≡ note_all no_maxima (numbers o ps)
-own-same o ps = own-from (no_own o) ps
+own_same o ps = own-from (no_own o) ps

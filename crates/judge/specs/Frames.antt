@@ -11,8 +11,7 @@ use Rattle.judge.specs.declared.verdict.JudgeError.{JudgeError}
 use Rattle.judge.specs.Part.{part_width, part_at, part_shown, is_in_range}
 use Rattle.slot.specs.Numbers.{choice_number}
 use Rattle.judge.specs.Values.{standing_number, slot_verdict_number, standing_from, choice_from, slot_verdict_from}
-use Rattle.judge.specs.Numbers.{numbers}
-use Rattle.judge.specs.Maxima.{no_maxima, note_all}
+use Rattle.judge.specs.Maxima.{two_highest}
 use Rattle.judge.specs.Judge.{verdicts, judgement, most_pairs, error, row_in_range, unless, left}
 
 -- ---- a pair's frame
@@ -103,7 +102,7 @@ refusal s clean = frames_error s clean (pair_count s * verdict_width)
 
 -- The two highest numbers of an operator, and the slot that is healed.
 abbrev pub frames_maxima : List ℕ → ℕ → ℕ → Result Maxima JudgeError
-frames_maxima s clean o = unless (refusal s clean) (note_all no_maxima (numbers o (row s)))
+frames_maxima s clean o = unless (refusal s clean) (two_highest o (row s))
 
 abbrev pub frames_heal : List ℕ → ℕ → Result (Option (ℕ × SlotIndex)) JudgeError
 frames_heal s clean = unless (refusal s clean) (judgement (row s) (clean == 1)).heal

@@ -8,7 +8,7 @@ use Rattle.judge.specs.declared.numbers.Maxima.{Maxima}
 use Rattle.judge.specs.declared.numbers.Counts.{Counts}
 use Rattle.judge.specs.declared.numbers.Own.{Own}
 use Rattle.judge.specs.Pairs.{numbered}
-use Rattle.judge.specs.Numbers.{number}
+use Rattle.judge.specs.Numbers.{number, numbers}
 
 abbrev pub no_maxima : Maxima
 no_maxima = record { first = 0; second = 0 }
@@ -20,6 +20,10 @@ note m v = record { first = max m.first v; second = max m.second (min m.first v)
 abbrev pub note_all : Maxima → List ℕ → Maxima
 note_all m [] = m
 note_all m (v ∷ vs) = note_all (note m v) vs
+
+-- Of an operator's slots in a row.
+abbrev pub two_highest : ℕ → List Pair → Maxima
+two_highest o ps = note_all no_maxima (numbers o ps)
 
 -- ---- of each operator, and of one
 

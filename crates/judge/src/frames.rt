@@ -9,7 +9,8 @@
 // | 2, 3 | A, B: 0 Winner, 1 Nothing, 2 OlderDamaged, 3 InFlight, 4 Damage |
 ghost use Rattle.std.specs.Prelude.{◌≡◌, ◌*◌, ◌==◌, length};
 ghost use Rattle.judge.specs.Part.{part_width, part_at};
-ghost use Rattle.judge.specs.Frames.{verdict_width, verdict_bytes, verdict_from, verdict_cells, operator_in, pair_from, pair_in_range, judge_frames, frames_left, frames_maxima, frames_heal};
+ghost use Rattle.judge.specs.Frames.{verdict_width, verdict_bytes, verdict_from, verdict_cells, operator_in, pair_from, pair_in_range, judge_frames, frames_left, row, refusal, frames_maxima, frames_heal};
+ghost use Rattle.judge.specs.Maxima.{two_highest};
 ghost use Rattle.judge.specs.Alike.{FramesAside};
 ghost use Rattle.judge.specs.Examples.{JudgeExamples};
 ghost use Rattle.judge.specs.Table.{Table};
@@ -174,7 +175,23 @@ pub fn judge(frames: &[u8], clean: u8, out: &mut [u8]) -> Result<Judgement, Judg
     answer
 }
 
-// The highest numbers of an operator, in frames that the judge does not refuse.
+// Why the judge refuses these frames, where there is room for the verdicts.
+pub fn refusal(frames: &[u8], clean: u8) -> Option<JudgeError>
+    ensures { result ≡ refusal frames.now clean }
+{
+    let (pairs, rest) = frames.as_chunks::<FRAME>();
+    crate::row::refusal(pairs, !rest.is_empty(), clean)
+}
+
+// The two highest numbers of an operator in the whole frames, also where the judge refuses them.
+pub fn two_highest(frames: &[u8], operator: u8) -> Maxima
+    ensures { result ≡ two_highest operator (row frames.now) }
+{
+    let (pairs, _) = frames.as_chunks::<FRAME>();
+    crate::row::two_highest(pairs, operator)
+}
+
+// The same, in frames that the judge does not refuse.
 pub fn maxima(frames: &[u8], clean: u8, operator: u8) -> Result<Maxima, JudgeError>
     ensures { result ≡ frames_maxima frames.now clean operator }
 {

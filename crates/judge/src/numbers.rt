@@ -58,6 +58,14 @@ pub(crate) trait Notes {
         ensures { self.new ≡ noted self.old operator a b };
 }
 
+// Nothing, where the refusal alone is asked for.
+impl Notes for () {
+    ghost noted = { λ none o x y. none };
+
+    #[inline(always)]
+    fn note(&mut self, _operator: u8, _a: u64, _b: u64) {}
+}
+
 // How many operators there are.
 const OPERATORS: usize = MOST_OPERATOR as usize + 1;
 

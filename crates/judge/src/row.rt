@@ -6,9 +6,9 @@ ghost use Rattle.std.specs.Borrow.{GName};
 ghost use Rattle.judge.specs.declared.pairs.Pair.{Pair};
 ghost use Rattle.judge.specs.declared.verdict.PairVerdict.{PairVerdict};
 ghost use Rattle.judge.specs.Operators.{operators_in_range};
-ghost use Rattle.judge.specs.Maxima.{no_maxima, note_all, note_pairs};
+ghost use Rattle.judge.specs.Maxima.{two_highest, note_pairs};
 ghost use Rattle.judge.specs.Pairs.{numbered, pair_case};
-ghost use Rattle.judge.specs.Numbers.{number, numbers};
+ghost use Rattle.judge.specs.Numbers.{number};
 ghost use Rattle.judge.specs.Verdict.{by_index};
 ghost use Rattle.judge.specs.Owners.{owner, owners, any_two_differ};
 ghost use Rattle.judge.specs.Passes.{verdict_by, verdicts_by, no_tally, tallies, heals};
@@ -250,11 +250,30 @@ pub(crate) fn maxima<P: ReadPair>(
     clean: u8,
     operator: u8,
 ) -> Result<Maxima, JudgeError>
-    ensures { result ≡ unless (row_error (record { pairs = length pairs.now; rest = rest; fits = true; within = nat_le clean 1 && row_in_range P.within P.shown pairs.now })) (note_all no_maxima (numbers operator (map P.shown pairs.now))) }
+    ensures { result ≡ unless (row_error (record { pairs = length pairs.now; rest = rest; fits = true; within = nat_le clean 1 && row_in_range P.within P.shown pairs.now })) (two_highest operator (map P.shown pairs.now)) }
 {
     let mut own = Own::new(operator);
     admit(pairs, rest, clean, true, &mut own)?;
     Ok(own.maxima)
+}
+
+// Why the row is not judged, where there is room for the verdicts.
+pub(crate) fn refusal<P: ReadPair>(pairs: &[P], rest: bool, clean: u8) -> Option<JudgeError>
+    ensures { result ≡ row_error (record { pairs = length pairs.now; rest = rest; fits = true; within = nat_le clean 1 && row_in_range P.within P.shown pairs.now }) }
+{
+    admit(pairs, rest, clean, true, &mut ()).err()
+}
+
+// The highest numbers of an operator, also where the row is refused.
+pub(crate) fn two_highest<P: ReadPair>(pairs: &[P], operator: u8) -> Maxima
+    ensures { result ≡ two_highest operator (map P.shown pairs.now) }
+{
+    let mut own = Own::new(operator);
+    for p in pairs {
+        let (a, b) = p.numbers();
+        own.note(p.operator(), a, b);
+    }
+    own.maxima
 }
 
 // What the first pass counts.
