@@ -37,7 +37,7 @@ impl Maxima {
     }
 
     // Whether a candidate of this number is one above all other slots', as far as its number is known.
-    pub fn qualifies(self, seq: Option<u64>) -> bool
+    pub(crate) fn qualifies(self, seq: Option<u64>) -> bool
         ensures { result ≡ qualifies_by self seq }
     {
         match seq {

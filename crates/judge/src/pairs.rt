@@ -66,7 +66,7 @@ pub enum PairCase {
 
 impl Shown {
     // The number that the slot counts for.
-    pub fn numbered(self) -> Option<u64>
+    pub(crate) fn numbered(self) -> Option<u64>
         ensures { result ≡ numbered self }
     {
         match self {
@@ -139,7 +139,7 @@ impl Pair {
 
 impl PairCase {
     // Whether the pair has a candidate for the write in flight, qualifying or not.
-    pub fn has_candidate(self) -> bool
+    pub(crate) fn has_candidate(self) -> bool
         ensures { result ≡ has_candidate self }
     {
         matches!(self, PairCase::Won(_, Opposite::Candidate(_)))

@@ -32,7 +32,7 @@ pub struct SlotPart {
 
 impl Version {
     // Of a valid slot.
-    pub fn of_info(info: SlotInfo) -> Self
+    pub(crate) fn of_info(info: SlotInfo) -> Self
         ensures { result ≡ version_of_info info }
     {
         Version {
@@ -185,7 +185,7 @@ impl SlotPart {
     }
 
     // The number that it counts for, 0 where it is not numbered: apart from what it shows, which takes a jump for each slot.
-    pub fn number(self) -> u64
+    pub(crate) fn number(self) -> u64
         ensures { result ≡ number (numbered (part_shown self)) }
     {
         match (self.status(), self.facts) {
@@ -197,7 +197,7 @@ impl SlotPart {
     }
 
     // What it tells the judge.
-    pub fn shown(self) -> Shown
+    pub(crate) fn shown(self) -> Shown
         ensures { result ≡ part_shown self }
     {
         match (self.status(), self.facts) {

@@ -27,7 +27,7 @@ pub struct PairRead {
 
 impl SlotRead {
     // What the judge is told of the slot.
-    pub fn shown(self) -> Shown
+    pub(crate) fn shown(self) -> Shown
         ensures { result ≡ shown_read self }
     {
         match (self.status, self.facts) {

@@ -251,7 +251,7 @@ impl PairVerdict {
     }
 
     // Whether a slot of the pair is the write in flight.
-    pub fn in_flight(self) -> bool
+    pub(crate) fn in_flight(self) -> bool
         ensures { result ≡ in_flight self }
     {
         self.a == SlotVerdict::InFlight || self.b == SlotVerdict::InFlight
@@ -273,7 +273,7 @@ impl Tally {
     }
 
     // The rules of the store, beside the volume record's verdict. The clean mark counts if that is Confirmed and has no candidate.
-    pub fn rules(self, clean: bool, volume: PairVerdict) -> StoreRules
+    pub(crate) fn rules(self, clean: bool, volume: PairVerdict) -> StoreRules
         ensures { result ≡ store_rules clean self volume }
     {
         let clean = clean && volume.standing == Standing::Confirmed && !volume.in_flight();
@@ -285,7 +285,7 @@ impl Tally {
     }
 
     // Whether the store may be written, by the volume record's standing after each pass.
-    pub fn writable(self, first: Standing, last: Standing) -> bool
+    pub(crate) fn writable(self, first: Standing, last: Standing) -> bool
         ensures { result ≡ writable self.refused self.page_had_candidate first last }
     {
         !self.refused
@@ -299,7 +299,7 @@ impl Tally {
 impl StoreRules {
     // Whether a write in flight is demoted to damage; the volume record, which is the `first` pair, has a rule of its own. A closure for
     // each would hold the same test.
-    pub fn demotes(self, first: bool) -> bool
+    pub(crate) fn demotes(self, first: bool) -> bool
         ensures { result ≡ demotes self first }
     {
         if first {
@@ -312,7 +312,7 @@ impl StoreRules {
 
 impl PairVerdict {
     // Where it is demoted, a slot in flight becomes Damage, and its pair Unconfirmed.
-    pub fn demoted_if(self, demote: bool) -> Self
+    pub(crate) fn demoted_if(self, demote: bool) -> Self
         ensures { result ≡ demoted demote self }
     {
         let slot = |v: SlotVerdict| if v == SlotVerdict::InFlight {
@@ -333,7 +333,7 @@ impl PairVerdict {
     }
 
     // The slot in flight of the pair with this number, or what was found before.
-    pub fn heal_or(
+    pub(crate) fn heal_or(
         self,
         pair: usize,
         before: Option<(usize, SlotIndex)>,
