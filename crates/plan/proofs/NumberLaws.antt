@@ -5,9 +5,9 @@ use Rattle.slot.specs.declared.slot.SlotIndex.{SlotIndex}
 use Rattle.judge.specs.declared.numbers.Maxima.{Maxima}
 use Rattle.judge.specs.Pairs.{numbered}
 use Rattle.judge.specs.Numbers.{number, number_for, numbers, place, highest}
-use Rattle.judge.specs.Maxima.{no_maxima, note, note_all, others_max}
+use Rattle.judge.specs.Maxima.{no_maxima, note, note_all, two_highest, others_max}
 use Rattle.judge.specs.Verdict.{by_index}
-use Rattle.judge.specs.Frames.{operator_in, pair_from, frames, row, refusal, frames_maxima, frames_heal}
+use Rattle.judge.specs.Frames.{operator_in, pair_from, frames, row, refusal, frames_heal}
 use Rattle.judge.proofs.NumberLaws.{At, others-same}
 use Rattle.judge.specs.Judge.{judgement, unless}
 use Rattle.judge.specs.declared.verdict.JudgeError.{JudgeError}
@@ -54,21 +54,19 @@ others_highest k index f fs at =
 
 -- Over frames that are not refused, what is planned for the named slot is the plan of the frame f of its pair.
 pub heal_is : (s : List ℕ) (clean k : ℕ) (index : SlotIndex) (f : List ℕ) (m : Maxima) (answer : Result (Option (ℕ × Plan)) PlanError)
-    → Ok (Some (k, index)) ≡ frames_heal s clean → Ok m ≡ frames_maxima s clean (operator_in f) → Some f ≡ slice_get (frames s) k
+    → Ok (Some (k, index)) ≡ frames_heal s clean → m ≡ two_highest (operator_in f) (row s) → Some f ≡ slice_get (frames s) k
     → answer ≡ with_pair k (plan_at index (followed (frame_report f)) (others_max m (number (numbered (by_index index (pair_from f).a (pair_from f).b)))))
     → answer ≡ plan_heal s clean
 unfolding plan_heal
-heal_is s clean k index f m answer named known here answer_is = answer_is ∙ go (refusal s clean) named known
+heal_is s clean k index f m answer named highest here answer_is = answer_is ∙ go (refusal s clean) named
   where
     at : slice_get (frames s) k ≡ Some f
     at = sym here
 
     go : (e : Option JudgeError) → Ok (Some (k, index)) ≡ unless e (judgement (row s) (clean == 1)).heal
-        → Ok m ≡ unless e (note_all no_maxima (numbers (operator_in f) (row s)))
         → with_pair k (plan_at index (followed (frame_report f)) (others_max m (number (numbered (by_index index (pair_from f).a (pair_from f).b)))))
         ≡ unless_refused e (heal_for s (judgement (row s) (clean == 1)).heal)
-    go None heal_is m_is =
+    go None heal_is =
         let same : (judgement (row s) (clean == 1)).heal ≡ Some (k, index) = cc in
-        let maxima : m ≡ note_all no_maxima (numbers (operator_in f) (row s)) = cc in
-        rw (same, at, maxima, others_highest k index f (frames s) at)
-    go (Some e) heal_is m_is = absurd cc
+        rw (same, at, highest, others_highest k index f (frames s) at)
+    go (Some e) heal_is = absurd cc

@@ -12,7 +12,7 @@ ghost use Rattle.plan.specs.Heal.{with_pair, plan_heal};
 use crate::error::PlanError;
 use crate::frame;
 use crate::write::{Plan, frame_at, plan_at};
-use judge::frames::{FRAME, heal, maxima, operator, shown};
+use judge::frames::{FRAME, heal, operator, shown, two_highest};
 use judge::numbers::Maxima;
 use slot::slot::SlotIndex;
 
@@ -41,6 +41,5 @@ pub fn plan_heal(frames: &[u8], clean: u8) -> Result<Option<(usize, Plan)>, Plan
     let Some(frame) = frame_at(frames, pair) else {
         return Err(PlanError::NoPair);
     };
-    let m = maxima(frames, clean, operator(frame))?;
-    plan_named(pair, frame, index, m)
+    plan_named(pair, frame, index, two_highest(frames, operator(frame)))
 }

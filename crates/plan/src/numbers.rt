@@ -6,7 +6,7 @@ ghost use Rattle.plan.specs.Error.{unless_refused};
 ghost use Rattle.plan.specs.Numbers.{after, winner_number, winner_for, highest_winner, next_number, heal_number};
 
 use crate::error::PlanError;
-use judge::frames::{FRAME, maxima, shown};
+use judge::frames::{FRAME, maxima, refusal, shown};
 use judge::operators;
 use judge::pairs::{Pair, PairCase};
 
@@ -78,7 +78,9 @@ pub fn next_number(frames: &[u8], operator: u8) -> Result<u64, PlanError>
 pub fn heal_number(frames: &[u8], operator: u8) -> Result<u64, PlanError>
     ensures { result ≡ heal_number frames.now operator }
 {
-    maxima(frames, 0, operator)?;
+    if let Some(error) = refusal(frames, 0) {
+        return Err(PlanError::Frames(error));
+    }
     if !operators::is_in_range(false, operator) {
         return Err(PlanError::NoOperator);
     }

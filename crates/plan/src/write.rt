@@ -6,8 +6,7 @@ ghost use Rattle.plan.specs.Plan.{followed, plan_at, plan_next, plan_write};
 
 use crate::error::PlanError;
 use crate::{frame, numbers};
-use judge::frames::{FRAME, operator};
-use judge::operators::VOLUME_OPERATOR;
+use judge::frames::{FRAME, operator, refusal};
 use pair::pair::PairReport;
 use slot::slot::SlotIndex;
 
@@ -60,10 +59,9 @@ pub(crate) fn frame_at(frames: &[u8], pair: usize) -> Option<&[u8; FRAME]>
 pub fn plan_write(frames: &[u8], pair: usize) -> Result<Option<Plan>, PlanError>
     ensures { result ≡ plan_write frames.now pair }
 {
-    let frame = frame_at(frames, pair);
-    let most = numbers::highest_number(frames, frame.map_or(VOLUME_OPERATOR, operator))?;
-    let Some(frame) = frame else {
-        return Err(PlanError::NoPair);
+    let Some(frame) = frame_at(frames, pair) else {
+        return Err(refusal(frames, 0).map_or(PlanError::NoPair, PlanError::Frames));
     };
+    let most = numbers::highest_number(frames, operator(frame))?;
     plan_next(&frame::report(frame), most)
 }

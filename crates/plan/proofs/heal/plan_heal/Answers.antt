@@ -5,5 +5,5 @@ use Rattle.plan.proofs.heal.plan_heal.Goals as goal
 
 pub returns : goal.returns
 returns c =
-    heal_is c.args.frames.now c.args.clean c.in-Some.pair c.in-Some.index c.in-Some-frame_at.frame.now c.in_ok-m.m c.plan_named.result
-    (search rules) (rw c.operator.ensures at c.in_ok-m.ensures) c.in-Some-frame_at.ensures c.plan_named.ensures
+    heal_is c.args.frames.now c.args.clean c.in-Some.pair c.in-Some.index c.in-Some-frame_at.frame.now c.two_highest.result c.plan_named.result
+    (search rules) (search rules) c.in-Some-frame_at.ensures c.plan_named.ensures
