@@ -15,7 +15,7 @@ use Rattle.judge.specs.Operators.{operators_in_range}
 use Rattle.judge.specs.Owners.{owner, owners, any_two_differ}
 use Rattle.judge.specs.Judge.{verdicts_from, first_verdicts, any_candidate, page_candidate, first_tally, row_rules, verdicts, judgement, unless}
 use Rattle.judge.specs.Part.{part_width, part_at, part_shown, is_in_range}
-use Rattle.judge.specs.Frames.{pair_from, pair_in_range, frames, row, frames_error, judge_frames, frames_left}
+use Rattle.judge.specs.Frames.{pair_from, parts_in_range, frames, row, frames_error, judge_frames, frames_left}
 use Rattle.judge.specs.Alike.{with_owner, without_owners, without_differ, OwnersAside, with_owner_in, with_owner_at, winner_at, LosersUnread, part_without_owner, parts_without_owners, answer_without_differ, FramesAside}
 
 -- ---- a pair
@@ -140,7 +140,7 @@ rows-by : (fs : List (List ℕ)) → map without_owners (map pair_from fs) ≡ m
 rows-by [] = refl
 rows-by (f ∷ fs) = rw (shown-aside (part_at f 0), shown-aside (part_at f part_width), rows-by fs)
 
-ranges-by : (fs : List (List ℕ)) → list_all pair_in_range fs ≡ list_all range_by (map parts_without_owners fs)
+ranges-by : (fs : List (List ℕ)) → list_all parts_in_range fs ≡ list_all range_by (map parts_without_owners fs)
 ranges-by [] = refl
 ranges-by (f ∷ fs) = rw (range-aside (part_at f 0), range-aside (part_at f part_width), ranges-by fs)
 

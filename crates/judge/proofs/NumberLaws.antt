@@ -4,13 +4,13 @@ use Rattle.std.proofs.Common.{◌≡◌, refl, sym, ap, ap₂, ◌∙◌, Bool, 
 use Rattle.std.proofs.lemmas.List.{get_or-set_same, get_or-set_other, get_or-replicate, get_or_past, length-set}
 use Rattle.judge.specs.declared.pairs.Pair.{Pair}
 use Rattle.judge.specs.declared.numbers.Maxima.{Maxima}
-use Rattle.judge.specs.declared.numbers.Counts.{Counts}
-use Rattle.judge.specs.declared.numbers.Own.{Own}
+use Rattle.judge.specs.declared.numbers.OperatorMaxima.{OperatorMaxima}
+use Rattle.judge.specs.declared.numbers.OwnMaxima.{OwnMaxima}
 use Rattle.judge.specs.Pairs.{numbered}
 use Rattle.judge.specs.Numbers.{number, number_for, numbers, highest, highest_other, qualifies}
 use Rattle.judge.specs.Operators.{operator_in_range, operators_in_range}
 use Rattle.slot.proofs.Tests.{both}
-use Rattle.judge.specs.Maxima.{no_maxima, note, note_all, no_counts, no_own, count_of, note_two, note_own, note_pairs, others_max, qualifies_by}
+use Rattle.judge.specs.Maxima.{no_maxima, note, note_all, no_operator_maxima, no_own, maxima_of, note_two, note_own, note_pairs, others_max, qualifies_by}
 
 -- v was noted, and h is the highest of the others.
 record Held (v : ℕ) (m : Maxima) (h : ℕ) : Type 0 where
@@ -53,8 +53,8 @@ note-none : (m : Maxima) → note (note m 0) 0 ≡ m
 note-none m = ap₂ (λ (a b : ℕ). record { first = a; second = b }) (omega arith) (omega arith)
 
 -- Of another pair's operator nothing is noted.
-noted-for : (c : Counts) (o : ℕ) (p : Pair) → o < length c.maxima
-    → count_of (note_two c p.operator (number (numbered p.a)) (number (numbered p.b))) o ≡ note (note (count_of c o) (number_for o p p.a)) (number_for o p p.b)
+noted-for : (c : OperatorMaxima) (o : ℕ) (p : Pair) → o < length c.maxima
+    → maxima_of (note_two c p.operator (number (numbered p.a)) (number (numbered p.b))) o ≡ note (note (maxima_of c o) (number_for o p p.a)) (number_for o p p.b)
 noted-for c o p within = go (eqb p.operator o) refl
   where
     x : ℕ
@@ -64,25 +64,25 @@ noted-for c o p within = go (eqb p.operator o) refl
     y = number (numbered p.b)
 
     go : (own : Bool) → eqb p.operator o ≡ own
-        → get_or (set c.maxima p.operator (note (note (count_of c p.operator) x) y)) o no_maxima ≡ note (note (count_of c o) (cond own x 0)) (cond own y 0)
-    go true is = rw (eqb-true p.operator o is) (get_or-set_same c.maxima o (note (note (count_of c o) x) y) no_maxima within)
+        → get_or (set c.maxima p.operator (note (note (maxima_of c p.operator) x) y)) o no_maxima ≡ note (note (maxima_of c o) (cond own x 0)) (cond own y 0)
+    go true is = rw (eqb-true p.operator o is) (get_or-set_same c.maxima o (note (note (maxima_of c o) x) y) no_maxima within)
     go false is =
         let other : o ≡ p.operator → ⊥ = grind (arith, is) in
-        get_or-set_other c.maxima p.operator o (note (note (count_of c p.operator) x) y) no_maxima other ∙ sym (note-none (count_of c o))
+        get_or-set_other c.maxima p.operator o (note (note (maxima_of c p.operator) x) y) no_maxima other ∙ sym (note-none (maxima_of c o))
 
-length-counts : (c : Counts) (ps : List Pair) → length (note_pairs note_two c ps).maxima ≡ length c.maxima
-length-counts c [] = refl
-length-counts c (p ∷ ps) = length-counts (note_two c p.operator (number (numbered p.a)) (number (numbered p.b))) ps ∙ length-set _ _ _
+length-noted : (c : OperatorMaxima) (ps : List Pair) → length (note_pairs note_two c ps).maxima ≡ length c.maxima
+length-noted c [] = refl
+length-noted c (p ∷ ps) = length-noted (note_two c p.operator (number (numbered p.a)) (number (numbered p.b))) ps ∙ length-set _ _ _
 
 -- The operators of a row are below 16.
 in-range : (volume : Bool) (o : ℕ) → operator_in_range volume o ≡ true → o < 16
 in-range true o is = grind (arith, is)
 in-range false o is = grind (arith, is)
 
-counts-from : (c : Counts) (o : ℕ) (ps : List Pair) → o < length c.maxima → count_of (note_pairs note_two c ps) o ≡ note_all (count_of c o) (numbers o ps)
-counts-from c o [] within = refl
-counts-from c o (p ∷ ps) within =
-    counts-from (note_two c p.operator (number (numbered p.a)) (number (numbered p.b))) o ps (rw length-set within)
+maxima-from : (c : OperatorMaxima) (o : ℕ) (ps : List Pair) → o < length c.maxima → maxima_of (note_pairs note_two c ps) o ≡ note_all (maxima_of c o) (numbers o ps)
+maxima-from c o [] within = refl
+maxima-from c o (p ∷ ps) within =
+    maxima-from (note_two c p.operator (number (numbered p.a)) (number (numbered p.b))) o ps (rw length-set within)
     ∙ ap (λ (m : Maxima). note_all m (numbers o ps)) (noted-for c o p within)
 
 -- Of an operator that no pair is of, nothing is noted.
@@ -95,26 +95,26 @@ none-noted o volume (p ∷ ps) range above =
     rw (ne_eqb p.operator o other) (none-noted o false ps known.1 above)
 
 -- Where the operators of a row are in range.
-pub counts-same : (o : ℕ) (ps : List Pair) → operators_in_range true ps ≡ true
-    → count_of (note_pairs note_two no_counts ps) o ≡ note_all no_maxima (numbers o ps)
-counts-same o ps range = go (ltb o 16) refl
+pub maxima-same : (o : ℕ) (ps : List Pair) → operators_in_range true ps ≡ true
+    → maxima_of (note_pairs note_two no_operator_maxima ps) o ≡ note_all no_maxima (numbers o ps)
+maxima-same o ps range = go (ltb o 16) refl
   where
-    go : (within : Bool) → ltb o 16 ≡ within → count_of (note_pairs note_two no_counts ps) o ≡ note_all no_maxima (numbers o ps)
+    go : (within : Bool) → ltb o 16 ≡ within → maxima_of (note_pairs note_two no_operator_maxima ps) o ≡ note_all no_maxima (numbers o ps)
     go true is =
         let within = ltb-true o 16 is in
-        counts-from no_counts o ps within ∙ ap (λ (m : Maxima). note_all m (numbers o ps)) (get_or-replicate 16 o no_maxima no_maxima within)
+        maxima-from no_operator_maxima o ps within ∙ ap (λ (m : Maxima). note_all m (numbers o ps)) (get_or-replicate 16 o no_maxima no_maxima within)
     go false is =
         let above : 16 ≤ o = grind (arith, is) in
-        get_or_past (note_pairs note_two no_counts ps).maxima o no_maxima (rw (length-counts no_counts ps) above) ∙ sym (none-noted o true ps range above)
+        get_or_past (note_pairs note_two no_operator_maxima ps).maxima o no_maxima (rw (length-noted no_operator_maxima ps) above) ∙ sym (none-noted o true ps range above)
 
 -- ---- of one operator
 
-own-step : (c : Own) (p : Pair)
+own-step : (c : OwnMaxima) (p : Pair)
     → (note_own c p.operator (number (numbered p.a)) (number (numbered p.b)))
     ≡ record { operator = c.operator; maxima = note (note c.maxima (number_for c.operator p p.a)) (number_for c.operator p p.b) }
 own-step c p = go (eqb p.operator c.operator)
   where
-    noted : Maxima → Own
+    noted : Maxima → OwnMaxima
     noted m = record { operator = c.operator; maxima = m }
 
     go : (own : Bool)
@@ -123,10 +123,10 @@ own-step c p = go (eqb p.operator c.operator)
     go true = refl
     go false = ap noted (sym (note-none c.maxima))
 
-own-from : (c : Own) (ps : List Pair) → (note_pairs note_own c ps).maxima ≡ note_all c.maxima (numbers c.operator ps)
+own-from : (c : OwnMaxima) (ps : List Pair) → (note_pairs note_own c ps).maxima ≡ note_all c.maxima (numbers c.operator ps)
 own-from c [] = refl
 own-from c (p ∷ ps) =
-    ap (λ (d : Own). (note_pairs note_own d ps).maxima) (own-step c p)
+    ap (λ (d : OwnMaxima). (note_pairs note_own d ps).maxima) (own-step c p)
     ∙ own-from (record { operator = c.operator; maxima = note (note c.maxima (number_for c.operator p p.a)) (number_for c.operator p p.b) }) ps
 
 pub own_same : (o : ℕ) (ps : List Pair)

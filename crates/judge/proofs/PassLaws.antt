@@ -10,17 +10,17 @@ use Rattle.judge.specs.declared.pairs.Shown.{Shown}
 use Rattle.judge.specs.declared.pairs.Pair.{Pair}
 use Rattle.judge.specs.declared.pairs.Opposite.{Opposite}
 use Rattle.judge.specs.declared.pairs.PairCase.{PairCase}
-use Rattle.judge.specs.declared.numbers.Counts.{Counts}
+use Rattle.judge.specs.declared.numbers.OperatorMaxima.{OperatorMaxima}
 use Rattle.judge.specs.declared.verdict.PairVerdict.{PairVerdict}
 use Rattle.judge.specs.declared.verdict.Tally.{Tally}
 use Rattle.judge.specs.Pairs.{numbered, opposite, is_unsupported, valid, winner, pair_case}
 use Rattle.judge.specs.Numbers.{number_for, numbers, place, qualifies}
 use Rattle.judge.specs.Operators.{operators_in_range}
-use Rattle.judge.specs.Maxima.{no_maxima, note_all, no_counts, note_two, note_pairs, qualifies_by, by_maxima}
+use Rattle.judge.specs.Maxima.{no_maxima, note_all, no_operator_maxima, note_two, note_pairs, qualifies_by, by_maxima}
 use Rattle.judge.specs.Verdict.{by_index, slot_verdict, pair_verdict, in_flight}
 use Rattle.judge.specs.Judge.{verdicts_from, first_verdicts, candidates, any_candidate, any_trouble, any_refused, first_tally, pair_heal, heal}
 use Rattle.judge.specs.Passes.{verdict_by, verdicts_by, no_tally, tallied, tallies, heals}
-use Rattle.judge.proofs.NumberLaws.{At, qualifies-same, counts-same}
+use Rattle.judge.proofs.NumberLaws.{At, qualifies-same, maxima-same}
 
 -- ---- a candidate's number is the one that its slot counts for
 
@@ -63,10 +63,10 @@ module _ (q r : SlotIndex → Option ℕ → Bool) (p : Pair)
 
 verdicts-from : (all : List Pair) → operators_in_range true all ≡ true → (i : ℕ) (ps : List Pair)
     → ((o j v : ℕ) → At j (numbers o ps) v → At (2 * i + j) (numbers o all) v)
-    → verdicts_by (note_pairs note_two no_counts all) ps ≡ verdicts_from all i ps
+    → verdicts_by (note_pairs note_two no_operator_maxima all) ps ≡ verdicts_from all i ps
 verdicts-from all range i [] within = refl
 verdicts-from all range i (p ∷ ps) within =
-    let maxima = counts-same p.operator all range in
+    let maxima = maxima-same p.operator all range in
     let here =
     verdict-same (by_maxima (note_all no_maxima (numbers p.operator all))) (λ index. qualifies (numbers p.operator all) (place i index)) p (λ index. refl)
     agree in
@@ -95,7 +95,7 @@ verdicts-from all range i (p ∷ ps) within =
         let here : At 1 (numbers p.operator (p ∷ ps)) v = subst (λ (n : ℕ). At 1 (numbers p.operator (p ∷ ps)) n) counts (At.there At.here) in
         qualifies-same (2 * i + 1) (numbers p.operator all) v (within p.operator 1 v here)
 
-pub verdicts-same : (ps : List Pair) → operators_in_range true ps ≡ true → verdicts_by (note_pairs note_two no_counts ps) ps ≡ first_verdicts ps
+pub verdicts-same : (ps : List Pair) → operators_in_range true ps ≡ true → verdicts_by (note_pairs note_two no_operator_maxima ps) ps ≡ first_verdicts ps
 unfolding first_verdicts
 verdicts-same ps range = verdicts-from ps range 0 ps (λ o j v at. subst (λ (k : ℕ). At k (numbers o ps) v) (from_first j) at)
   where
@@ -107,7 +107,7 @@ verdicts-same ps range = verdicts-from ps range 0 ps (λ o j v at. subst (λ (k 
 count-first : (n : ℕ) (v : PairVerdict) (vs : List PairVerdict) → cond (in_flight v) (n + 1) n + candidates vs ≡ n + candidates (v ∷ vs)
 count-first n v vs = grind arith
 
-tallies-from : (c : Counts) (t : Tally) (ps : List Pair)
+tallies-from : (c : OperatorMaxima) (t : Tally) (ps : List Pair)
     → tallies c false t ps
     ≡ record {
       candidates = t.candidates + candidates (verdicts_by c ps);
@@ -118,7 +118,7 @@ tallies-from : (c : Counts) (t : Tally) (ps : List Pair)
 tallies-from c t [] = simp (add-zero, or-false)
 tallies-from c t (p ∷ ps) = tallies-from c (tallied t false (pair_case p) (verdict_by c p)) ps ∙ simp (or_assoc, count-first)
 
-pub tally-same : (c : Counts) (ps : List Pair) → tallies c true no_tally ps ≡ first_tally ps (verdicts_by c ps)
+pub tally-same : (c : OperatorMaxima) (ps : List Pair) → tallies c true no_tally ps ≡ first_tally ps (verdicts_by c ps)
 unfolding first_tally
 tally-same c [] = refl
 tally-same c (p ∷ ps) = tallies-from c (tallied no_tally true (pair_case p) (verdict_by c p)) ps ∙ rw (count-first, zero-add)

@@ -5,14 +5,14 @@ use Rattle.std.specs.List.{list_all}
 use Rattle.std.proofs.lemmas.List.{drop-set-lt, take_more_set}
 use Rattle.slot.specs.declared.slot.SlotIndex.{SlotIndex}
 use Rattle.judge.specs.declared.pairs.Pair.{Pair}
-use Rattle.judge.specs.declared.numbers.Counts.{Counts}
+use Rattle.judge.specs.declared.numbers.OperatorMaxima.{OperatorMaxima}
 use Rattle.judge.specs.declared.verdict.PairVerdict.{PairVerdict}
 use Rattle.judge.specs.declared.verdict.Tally.{Tally}
 use Rattle.judge.specs.declared.verdict.StoreRules.{StoreRules}
 use Rattle.judge.specs.declared.verdict.Judgement.{Judgement}
 use Rattle.judge.specs.declared.verdict.JudgeError.{JudgeError}
 use Rattle.judge.specs.Operators.{operators_in_range}
-use Rattle.judge.specs.Maxima.{no_counts, note_two, note_pairs}
+use Rattle.judge.specs.Maxima.{no_operator_maxima, note_two, note_pairs}
 use Rattle.judge.specs.Verdict.{in_flight}
 use Rattle.judge.specs.Judge.{demoted, pair_heal, first_verdicts, first_tally, volume_verdict, store_rules, last_verdicts, writable, row_rules, verdicts, judgement, unless, left}
 use Rattle.judge.specs.Owners.{owners, any_two_differ}
@@ -89,14 +89,14 @@ module _ {C : Type 0} (cell : PairVerdict → C) (read : C → PairVerdict) wher
   written-hold back cs vs is = rw (is, read-all cell read back vs)
 
 -- The passes by the two highest numbers of each operator are the definition's.
-module _ (ps : List Pair) (clean : Bool) {m : Counts} {t : Tally} {volume : PairVerdict} {rules : StoreRules}
+module _ (ps : List Pair) (clean : Bool) {m : OperatorMaxima} {t : Tally} {volume : PairVerdict} {rules : StoreRules}
     (range : operators_in_range true ps ≡ true)
-    (m-is : m ≡ note_pairs note_two no_counts ps)
+    (m-is : m ≡ note_pairs note_two no_operator_maxima ps)
     (t-is : t ≡ tallies m true no_tally ps)
     (volume-is : volume ≡ volume_verdict (verdicts_by m ps))
     (rules-is : rules ≡ store_rules clean t volume) where
   by_definition : verdicts_by m ps ≡ first_verdicts ps
-  by_definition = ap (λ (c : Counts). verdicts_by c ps) m-is ∙ verdicts-same ps range
+  by_definition = ap (λ (c : OperatorMaxima). verdicts_by c ps) m-is ∙ verdicts-same ps range
 
   tally : t ≡ first_tally ps (first_verdicts ps)
   tally = t-is ∙ tally-same m ps ∙ ap (first_tally ps) by_definition
@@ -117,9 +117,9 @@ module _ (ps : List Pair) (clean : Bool) {m : Counts} {t : Tally} {volume : Pair
   heal_judged = rw (heals-same, last-verdicts)
 
 module _ {C : Type 0} (cell : PairVerdict → C) (read : C → PairVerdict) (back : (v : PairVerdict) → read (cell v) ≡ v) where
-  module _ (ps : List Pair) (clean : Bool) {m : Counts} {t : Tally} {firsts lasts : List C} {volume : PairVerdict} {rules : StoreRules}
+  module _ (ps : List Pair) (clean : Bool) {m : OperatorMaxima} {t : Tally} {firsts lasts : List C} {volume : PairVerdict} {rules : StoreRules}
       (range : operators_in_range true ps ≡ true)
-      (m-is : m ≡ note_pairs note_two no_counts ps)
+      (m-is : m ≡ note_pairs note_two no_operator_maxima ps)
       (t-is : t ≡ tallies m true no_tally ps)
       (firsts-are : firsts ≡ map cell (verdicts_by m ps))
       (volume-at : slice_get (map read firsts) 0 ≡ Some volume)

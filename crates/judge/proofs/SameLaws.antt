@@ -13,7 +13,7 @@ use Rattle.judge.specs.Part.{part_width, part_bytes, part_at, part_shown, is_in_
 use Rattle.judge.specs.Operators.{operators_in_range}
 use Rattle.judge.specs.Judge.{verdicts, judgement, row_error, unless, left}
 use Rattle.judge.specs.Records.{pair_read, records_error, judge_records, records_left}
-use Rattle.judge.specs.Frames.{operator_place, frame_width, verdict_width, operator_in, pair_from, pair_in_range, pair_count, frames, row, row_bytes, frames_error, judge_frames, frames_left}
+use Rattle.judge.specs.Frames.{operator_place, frame_width, verdict_width, operator_in, pair_from, parts_in_range, pair_count, frames, row, row_bytes, frames_error, judge_frames, frames_left}
 use Rattle.judge.specs.Same.{filled, Framed, part_read, frame_of, frames_of, pairs_of, Fits, AllFit, mark, SameJudge, IgnoredFields}
 use Rattle.judge.proofs.PartLaws.{part-shows, part-in-range, filled-fits, length_part, byte-read, part-read}
 use Rattle.judge.proofs.RowLaws.{flag-back}
@@ -47,7 +47,7 @@ module _ (f : Framed) (fits : Fits f) where
       let b_is = ap part_shown b-read ∙ part-shows f.rest_b f.pair.b.status f.pair.b.facts in
       rw (a_is, b_is, operator-read)
 
-  frame-in-range : pair_in_range (frame_of f) ≡ true
+  frame-in-range : parts_in_range (frame_of f) ≡ true
   frame-in-range =
       ap₂ (λ x y. x && y) (ap is_in_range a-read ∙ part-in-range f.rest_a f.pair.a.status f.pair.a.facts)
       (ap is_in_range b-read ∙ part-in-range f.rest_b f.pair.b.status f.pair.b.facts)
@@ -71,7 +71,7 @@ read_all : (fs : List Framed) → AllFit fs → map pair_from (map frame_of fs) 
 read_all [] fits = refl
 read_all (f ∷ fs) fits = ap₂ (λ (p : Pair) (ps : List Pair). p ∷ ps) (frame-pair f fits.0) (read_all fs fits.1)
 
-all-in-range : (fs : List Framed) → AllFit fs → list_all pair_in_range (map frame_of fs) ≡ true
+all-in-range : (fs : List Framed) → AllFit fs → list_all parts_in_range (map frame_of fs) ≡ true
 all-in-range [] fits = refl
 all-in-range (f ∷ fs) fits = simp (frame-in-range f fits.0, all-in-range fs fits.1)
 
@@ -109,7 +109,7 @@ module _ (fs : List Framed) (fits : AllFit fs) where
       (λ (n : ℕ) (within : Bool). row_error (record { pairs = n; rest = false; fits = eqb room (n * verdict_width); within = within }))
       (count-is fs ∙ sym (length-pairs fs))
       (ap₂ (λ (parts : Bool) (row : List Pair). leb clean 1 && (parts && operators_in_range true row))
-      (ap (list_all pair_in_range) (frames-are fs) ∙ all-in-range fs fits) (row-is fs fits))
+      (ap (list_all parts_in_range) (frames-are fs) ∙ all-in-range fs fits) (row-is fs fits))
 
   pub answer-is : (clean room : ℕ)
       → judge_frames (frames_of fs) clean room

@@ -28,9 +28,9 @@ operator_in s = get_or s operator_place 0
 abbrev pub pair_from : List ℕ → Pair
 pair_from s = record { a = part_shown (part_at s 0); b = part_shown (part_at s part_width); operator = operator_in s }
 
--- Status and facts of both slots.
-abbrev pub pair_in_range : List ℕ → Bool
-pair_in_range s = is_in_range (part_at s 0) && is_in_range (part_at s part_width)
+-- Status and facts of both slots are in range; the operator is not looked at.
+abbrev pub parts_in_range : List ℕ → Bool
+parts_in_range s = is_in_range (part_at s 0) && is_in_range (part_at s part_width)
 
 -- How many pairs the frames hold, the frames one by one, and the pairs that they stand for.
 abbrev pub pair_count : List ℕ → ℕ
@@ -44,7 +44,7 @@ row s = map pair_from (frames s)
 
 -- Their values are in range.
 abbrev pub frames_in_range : List ℕ → Bool
-frames_in_range s = row_in_range pair_in_range pair_from (frames s)
+frames_in_range s = row_in_range parts_in_range pair_from (frames s)
 
 -- ---- a pair's verdict
 

@@ -83,7 +83,7 @@ store_rules clean t volume =
     }
 
 abbrev pub demotes : StoreRules → Bool → Bool
-demotes rules first = if first then rules.volume_demote else rules.page_demote
+demotes rules volume = if volume then rules.volume_demote else rules.page_demote
 
 abbrev pub demoted_slot : SlotVerdict → SlotVerdict
 demoted_slot SlotVerdict.InFlight = SlotVerdict.Damage

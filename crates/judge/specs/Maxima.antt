@@ -5,8 +5,8 @@ use Rattle.std.specs.Prelude.{Bool, true, List, [], ◌∷◌, ℕ, ◌+◌, ◌
 use Rattle.slot.specs.declared.slot.SlotIndex.{SlotIndex}
 use Rattle.judge.specs.declared.pairs.Pair.{Pair}
 use Rattle.judge.specs.declared.numbers.Maxima.{Maxima}
-use Rattle.judge.specs.declared.numbers.Counts.{Counts}
-use Rattle.judge.specs.declared.numbers.Own.{Own}
+use Rattle.judge.specs.declared.numbers.OperatorMaxima.{OperatorMaxima}
+use Rattle.judge.specs.declared.numbers.OwnMaxima.{OwnMaxima}
 use Rattle.judge.specs.Pairs.{numbered}
 use Rattle.judge.specs.Numbers.{number, numbers}
 
@@ -27,21 +27,21 @@ two_highest o ps = note_all no_maxima (numbers o ps)
 
 -- ---- of each operator, and of one
 
-abbrev pub no_counts : Counts
-no_counts = record { maxima = replicate 16 no_maxima }
+abbrev pub no_operator_maxima : OperatorMaxima
+no_operator_maxima = record { maxima = replicate 16 no_maxima }
 
-abbrev pub count_of : Counts → ℕ → Maxima
-count_of c o = get_or c.maxima o no_maxima
+abbrev pub maxima_of : OperatorMaxima → ℕ → Maxima
+maxima_of c o = get_or c.maxima o no_maxima
 
-abbrev pub no_own : ℕ → Own
+abbrev pub no_own : ℕ → OwnMaxima
 no_own o = record { operator = o; maxima = no_maxima }
 
 -- Both numbers of a pair are noted for its operator,
-abbrev pub note_two : Counts → ℕ → ℕ → ℕ → Counts
-note_two c o x y = record { maxima = set c.maxima o (note (note (count_of c o) x) y) }
+abbrev pub note_two : OperatorMaxima → ℕ → ℕ → ℕ → OperatorMaxima
+note_two c o x y = record { maxima = set c.maxima o (note (note (maxima_of c o) x) y) }
 
 -- or where that is this one.
-abbrev pub note_own : Own → ℕ → ℕ → ℕ → Own
+abbrev pub note_own : OwnMaxima → ℕ → ℕ → ℕ → OwnMaxima
 note_own c o x y = if o == c.operator then record { operator = c.operator; maxima = note (note c.maxima x) y } else c
 
 -- Pair by pair.

@@ -14,9 +14,9 @@ most_operator = 15
 abbrev pub volume_operator : ℕ
 volume_operator = 0
 
--- `volume`: of the volume record.
+-- Whether a pair can be of this operator; `volume`: the volume record, which can be of its own alone.
 abbrev pub operator_in_range : Bool → ℕ → Bool
-operator_in_range volume o = nat_le o (if volume then volume_operator else most_operator)
+operator_in_range volume o = if volume then o == volume_operator else nat_le o most_operator
 
 -- The operators of a row are in range; `volume`: its first pair is the volume record.
 abbrev pub operators_in_range : Bool → List Pair → Bool

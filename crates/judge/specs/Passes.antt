@@ -6,18 +6,18 @@ use Rattle.std.specs.Option.{option_or}
 use Rattle.slot.specs.declared.slot.SlotIndex.{SlotIndex}
 use Rattle.judge.specs.declared.pairs.Pair.{Pair}
 use Rattle.judge.specs.declared.pairs.PairCase.{PairCase}
-use Rattle.judge.specs.declared.numbers.Counts.{Counts}
+use Rattle.judge.specs.declared.numbers.OperatorMaxima.{OperatorMaxima}
 use Rattle.judge.specs.Pairs.{pair_case, has_candidate}
-use Rattle.judge.specs.Maxima.{count_of, by_maxima}
+use Rattle.judge.specs.Maxima.{maxima_of, by_maxima}
 use Rattle.judge.specs.declared.verdict.PairVerdict.{PairVerdict}
 use Rattle.judge.specs.declared.verdict.Tally.{Tally}
 use Rattle.judge.specs.Verdict.{pair_verdict, in_flight, is_confirmed, is_refused}
 use Rattle.judge.specs.Judge.{pair_heal}
 
-abbrev pub verdict_by : Counts → Pair → PairVerdict
-verdict_by c p = pair_verdict (by_maxima (count_of c p.operator)) (pair_case p)
+abbrev pub verdict_by : OperatorMaxima → Pair → PairVerdict
+verdict_by c p = pair_verdict (by_maxima (maxima_of c p.operator)) (pair_case p)
 
-abbrev pub verdicts_by : Counts → List Pair → List PairVerdict
+abbrev pub verdicts_by : OperatorMaxima → List Pair → List PairVerdict
 verdicts_by c ps = map (verdict_by c) ps
 
 abbrev pub no_tally : Tally
@@ -33,8 +33,8 @@ tallied t volume case v =
       refused = t.refused || is_refused v.standing;
     }
 
--- The tally with the pairs of a row; the flag says whether its first one is the volume record.
-abbrev pub tallies : Counts → Bool → Tally → List Pair → Tally
+-- The tally with the pairs of a row; `volume`: its first pair is the volume record.
+abbrev pub tallies : OperatorMaxima → Bool → Tally → List Pair → Tally
 tallies c volume t [] = t
 tallies c volume t (p ∷ ps) = tallies c false (tallied t volume (pair_case p) (verdict_by c p)) ps
 

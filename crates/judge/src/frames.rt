@@ -9,7 +9,7 @@
 // | 2, 3 | A, B: 0 Winner, 1 Nothing, 2 OlderDamaged, 3 InFlight, 4 Damage |
 ghost use Rattle.std.specs.Prelude.{◌≡◌, ◌*◌, ◌==◌, length};
 ghost use Rattle.judge.specs.Part.{part_width, part_at};
-ghost use Rattle.judge.specs.Frames.{verdict_width, verdict_bytes, verdict_from, verdict_cells, operator_in, pair_from, pair_in_range, judge_frames, frames_left, row, refusal, frames_maxima, frames_heal};
+ghost use Rattle.judge.specs.Frames.{verdict_width, verdict_bytes, verdict_from, verdict_cells, operator_in, pair_from, parts_in_range, judge_frames, frames_left, row, refusal, frames_maxima, frames_heal};
 ghost use Rattle.judge.specs.Maxima.{two_highest};
 ghost use Rattle.judge.specs.Alike.{FramesAside};
 ghost use Rattle.judge.specs.Examples.{JudgeExamples};
@@ -65,8 +65,8 @@ pub fn operator(frame: &[u8; FRAME]) -> u8
 
 // whether the parts' values are in range,
 #[inline(always)]
-pub fn is_in_range(frame: &[u8; FRAME]) -> bool
-    ensures { result ≡ pair_in_range frame.now }
+pub fn parts_in_range(frame: &[u8; FRAME]) -> bool
+    ensures { result ≡ parts_in_range frame.now }
 {
     let (a, b) = parts(frame);
     a.is_in_range() && b.is_in_range()
@@ -88,10 +88,10 @@ pub fn shown(frame: &[u8; FRAME]) -> Pair
 impl ReadPair for [u8; FRAME] {
     ghost shown = { pair_from };
 
-    ghost within = { pair_in_range };
+    ghost within = { parts_in_range };
 
     fn is_in_range(&self) -> bool {
-        is_in_range(self)
+        parts_in_range(self)
     }
 
     #[inline(always)]

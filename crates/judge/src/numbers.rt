@@ -1,7 +1,7 @@
 // The highest numbers of a store, kept as its slots are gone through, and the rule that a candidate's number is held to: one more than the
 // highest of all other numbered slots of its operator.
 ghost use Rattle.std.specs.Prelude.{◌≡◌, ℕ};
-ghost use Rattle.judge.specs.Maxima.{no_counts, no_own, count_of, note, note_two, note_own, others_max, qualifies_by};
+ghost use Rattle.judge.specs.Maxima.{no_operator_maxima, no_own, maxima_of, note, note_two, note_own, others_max, qualifies_by};
 
 use crate::operators::MOST_OPERATOR;
 
@@ -71,15 +71,15 @@ const OPERATORS: usize = MOST_OPERATOR as usize + 1;
 
 // The highest numbers of each operator.
 #[derive(Clone, Copy)]
-pub(crate) struct Counts {
+pub(crate) struct OperatorMaxima {
     maxima: [Maxima; OPERATORS],
 }
 
-impl Counts {
+impl OperatorMaxima {
     pub(crate) fn new() -> Self
-        ensures { result ≡ no_counts }
+        ensures { result ≡ no_operator_maxima }
     {
-        Counts {
+        OperatorMaxima {
             maxima: [Maxima {
                 first: 0,
                 second: 0,
@@ -90,7 +90,7 @@ impl Counts {
     // Those of an operator; of one that there is not, none.
     #[inline(always)]
     pub(crate) fn of(&self, operator: u8) -> Maxima
-        ensures { result ≡ count_of self.now operator }
+        ensures { result ≡ maxima_of self.now operator }
     {
         let at = usize::from(operator);
         if at < OPERATORS {
@@ -101,7 +101,7 @@ impl Counts {
     }
 }
 
-impl Notes for Counts {
+impl Notes for OperatorMaxima {
     ghost noted = { note_two };
 
     #[inline(always)]
@@ -115,16 +115,16 @@ impl Notes for Counts {
 
 // Those of one operator.
 #[derive(Clone, Copy)]
-pub(crate) struct Own {
+pub(crate) struct OwnMaxima {
     operator: u8,
     pub(crate) maxima: Maxima,
 }
 
-impl Own {
+impl OwnMaxima {
     pub(crate) fn new(operator: u8) -> Self
         ensures { result ≡ no_own operator }
     {
-        Own {
+        OwnMaxima {
             operator,
             maxima: Maxima {
                 first: 0,
@@ -134,7 +134,7 @@ impl Own {
     }
 }
 
-impl Notes for Own {
+impl Notes for OwnMaxima {
     ghost noted = { note_own };
 
     #[inline(always)]

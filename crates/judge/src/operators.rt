@@ -8,17 +8,16 @@ pub const MOST_OPERATOR: u8 = 15;
 /// and that of the volume record.
 pub const VOLUME_OPERATOR: u8 = 0;
 
-// Whether there is such an operator; `volume`: of the volume record.
+// Whether a pair can be of this operator; `volume`: the volume record, which is operator 0's alone.
 #[inline(always)]
 pub fn is_in_range(volume: bool, operator: u8) -> bool
     ensures { result ≡ operator_in_range volume operator }
 {
-    operator
-        <= if volume {
-            VOLUME_OPERATOR
-        } else {
-            MOST_OPERATOR
-        }
+    if volume {
+        operator == VOLUME_OPERATOR
+    } else {
+        operator <= MOST_OPERATOR
+    }
 }
 
 // Does nothing: its contract is that one operator's numbers change no qualifying of another's candidates, and that where all pairs are one

@@ -14,7 +14,7 @@ ghost use Rattle.judge.specs.Owners.{owner, owners, any_two_differ};
 ghost use Rattle.judge.specs.Passes.{verdict_by, verdicts_by, no_tally, tallies, heals};
 ghost use Rattle.judge.specs.Judge.{volume_verdict, last_verdicts, judgement, verdicts, row_error, row_in_range, unless};
 
-use crate::numbers::{Counts, Maxima, Notes, Own};
+use crate::numbers::{Maxima, Notes, OperatorMaxima, OwnMaxima};
 use crate::operators;
 use crate::pairs::{Pair, PairCase, Shown};
 use crate::verdict::{JudgeError, Judgement, MOST_PAIRS, PairVerdict, Standing, StoreRules, Tally};
@@ -98,27 +98,27 @@ fn note<P: ReadPair, C: Notes>(pairs: &[P], notes: &mut C) -> bool
 
 // What a pair's slots show, and its first verdict.
 #[inline(always)]
-fn first<P: ReadPair>(p: &P, counts: &Counts) -> (PairCase, PairVerdict)
-    ensures { result ≡ (pair_case (P.shown p.now), verdict_by counts.now (P.shown p.now)) }
+fn first<P: ReadPair>(p: &P, maxima: &OperatorMaxima) -> (PairCase, PairVerdict)
+    ensures { result ≡ (pair_case (P.shown p.now), verdict_by maxima.now (P.shown p.now)) }
 {
     let pair = p.pair();
     let case = pair.case();
-    (case, PairVerdict::first(counts, pair.operator, case))
+    (case, PairVerdict::first(maxima, pair.operator, case))
 }
 
 // The pairs and their highest numbers go side by side through the passes: a struct of both would be taken apart in each.
 //
 // Writes each pair's first verdict, and counts over them.
-fn first_pass<P: ReadPair, V: Verdicts>(pairs: &[P], counts: &Counts, out: &mut V) -> Tally
+fn first_pass<P: ReadPair, V: Verdicts>(pairs: &[P], maxima: &OperatorMaxima, out: &mut V) -> Tally
     requires { length (V.cells out.old) ≡ length pairs.now }
     ensures room { length (V.cells out.new) ≡ length pairs.now }
-    ensures tally { result ≡ tallies counts.now true no_tally (map P.shown pairs.now) }
-    ensures cells { V.cells out.new ≡ map V.cell (verdicts_by counts.now (map P.shown pairs.now)) }
+    ensures tally { result ≡ tallies maxima.now true no_tally (map P.shown pairs.now) }
+    ensures cells { V.cells out.new ≡ map V.cell (verdicts_by maxima.now (map P.shown pairs.now)) }
     ensures place { V.place out.new ≡ V.place out.old }
 {
     let mut t = Tally::default();
     for (i, p) in pairs.iter().enumerate() {
-        let (case, v) = first(p, counts);
+        let (case, v) = first(p, maxima);
         t.count(i == 0, case, v);
         out.put(i, v);
     }
@@ -224,9 +224,9 @@ pub(crate) fn judge<P: ReadPair, V: Verdicts>(
     ensures kept { OnErr result (out.new ≡ out.old) }
     ensures place { V.place out.new ≡ V.place out.old }
 {
-    let mut counts = Counts::new();
-    admit(pairs, rest, clean, out.fits(pairs.len()), &mut counts)?;
-    let tally = first_pass(pairs, &counts, out);
+    let mut maxima = OperatorMaxima::new();
+    admit(pairs, rest, clean, out.fits(pairs.len()), &mut maxima)?;
+    let tally = first_pass(pairs, &maxima, out);
     let volume = out.verdict(0);
     let rules = tally.rules(clean == 1, volume);
     let heal = second_pass(rules, pairs.len(), out);
@@ -252,7 +252,7 @@ pub(crate) fn maxima<P: ReadPair>(
 ) -> Result<Maxima, JudgeError>
     ensures { result ≡ unless (row_error (record { pairs = length pairs.now; rest = rest; fits = true; within = nat_le clean 1 && row_in_range P.within P.shown pairs.now })) (two_highest operator (map P.shown pairs.now)) }
 {
-    let mut own = Own::new(operator);
+    let mut own = OwnMaxima::new(operator);
     admit(pairs, rest, clean, true, &mut own)?;
     Ok(own.maxima)
 }
@@ -268,7 +268,7 @@ pub(crate) fn refusal<P: ReadPair>(pairs: &[P], rest: bool, clean: u8) -> Option
 pub(crate) fn two_highest<P: ReadPair>(pairs: &[P], operator: u8) -> Maxima
     ensures { result ≡ two_highest operator (map P.shown pairs.now) }
 {
-    let mut own = Own::new(operator);
+    let mut own = OwnMaxima::new(operator);
     for p in pairs {
         let (a, b) = p.numbers();
         own.note(p.operator(), a, b);
@@ -277,12 +277,12 @@ pub(crate) fn two_highest<P: ReadPair>(pairs: &[P], operator: u8) -> Maxima
 }
 
 // What the first pass counts.
-fn tally<P: ReadPair>(pairs: &[P], counts: &Counts) -> Tally
-    ensures { result ≡ tallies counts.now true no_tally (map P.shown pairs.now) }
+fn tally<P: ReadPair>(pairs: &[P], maxima: &OperatorMaxima) -> Tally
+    ensures { result ≡ tallies maxima.now true no_tally (map P.shown pairs.now) }
 {
     let mut t = Tally::default();
     for (i, p) in pairs.iter().enumerate() {
-        let (case, v) = first(p, counts);
+        let (case, v) = first(p, maxima);
         t.count(i == 0, case, v);
     }
     t
@@ -291,25 +291,25 @@ fn tally<P: ReadPair>(pairs: &[P], counts: &Counts) -> Tally
 // The slot that is in flight after the second pass.
 fn in_flight<P: ReadPair>(
     pairs: &[P],
-    counts: &Counts,
+    maxima: &OperatorMaxima,
     rules: StoreRules,
 ) -> Option<(usize, SlotIndex)>
-    ensures { result ≡ heals 0 None (last_verdicts rules.volume_demote rules.page_demote (verdicts_by counts.now (map P.shown pairs.now))) }
+    ensures { result ≡ heals 0 None (last_verdicts rules.volume_demote rules.page_demote (verdicts_by maxima.now (map P.shown pairs.now))) }
 {
     let mut heal = None;
     for (i, p) in pairs.iter().enumerate() {
-        let (_, v) = first(p, counts);
+        let (_, v) = first(p, maxima);
         heal = v.demoted_if(rules.demotes(i == 0)).heal_or(i, heal);
     }
     heal
 }
 
 // The first verdict on the volume record.
-fn volume_verdict<P: ReadPair>(pairs: &[P], counts: &Counts) -> PairVerdict
-    ensures { result ≡ volume_verdict (verdicts_by counts.now (map P.shown pairs.now)) }
+fn volume_verdict<P: ReadPair>(pairs: &[P], maxima: &OperatorMaxima) -> PairVerdict
+    ensures { result ≡ volume_verdict (verdicts_by maxima.now (map P.shown pairs.now)) }
 {
     match pairs {
-        [volume, ..] => first(volume, counts).1,
+        [volume, ..] => first(volume, maxima).1,
         [] => PairVerdict::no_winner(Standing::Lost),
     }
 }
@@ -323,8 +323,8 @@ pub(crate) fn heal<P: ReadPair>(
 ) -> Result<Option<(usize, SlotIndex)>, JudgeError>
     ensures { result ≡ unless (row_error (record { pairs = length pairs.now; rest = rest; fits = true; within = nat_le clean 1 && row_in_range P.within P.shown pairs.now })) (judgement (map P.shown pairs.now) (clean == 1)).heal }
 {
-    let mut counts = Counts::new();
-    admit(pairs, rest, clean, true, &mut counts)?;
-    let rules = tally(pairs, &counts).rules(clean == 1, volume_verdict(pairs, &counts));
-    Ok(in_flight(pairs, &counts, rules))
+    let mut maxima = OperatorMaxima::new();
+    admit(pairs, rest, clean, true, &mut maxima)?;
+    let rules = tally(pairs, &maxima).rules(clean == 1, volume_verdict(pairs, &maxima));
+    Ok(in_flight(pairs, &maxima, rules))
 }

@@ -5,14 +5,14 @@
 // where any pair is not Confirmed; the volume record's is healed unless a pair is refused. One that is not healed is Damage.
 ghost use Rattle.std.specs.Prelude.{◌≡◌, ◌<◌};
 ghost use Rattle.std.specs.Option.{option_or};
-ghost use Rattle.judge.specs.Maxima.{count_of, by_maxima};
+ghost use Rattle.judge.specs.Maxima.{maxima_of, by_maxima};
 ghost use Rattle.judge.specs.Verdict.{slot_verdict, winner_beside, no_winner, pair_verdict, in_flight};
 ghost use Rattle.judge.specs.Judge.{demoted, demotes, store_rules, writable, pair_heal, HealNames};
 ghost use Rattle.judge.specs.Values.{standing_number, standing_from, slot_verdict_number, slot_verdict_from, choice_from, heal_slot, heal_pair, error_number, NumbersBack};
 ghost use Rattle.judge.specs.Alike.{OwnersAside, LosersUnread};
 ghost use Rattle.judge.specs.Passes.{tallied};
 
-use crate::numbers::Counts;
+use crate::numbers::OperatorMaxima;
 use crate::pairs::{Opposite, PairCase};
 use slot::numbers::choice_number;
 use slot::slot::SlotIndex;
@@ -191,13 +191,13 @@ impl JudgeError {
 // ---- the first pass
 
 impl Opposite {
-    fn verdict(self, counts: &Counts, operator: u8) -> SlotVerdict
-        ensures { result ≡ slot_verdict (by_maxima (count_of counts.now operator) SlotIndex.A) self }
+    fn verdict(self, maxima: &OperatorMaxima, operator: u8) -> SlotVerdict
+        ensures { result ≡ slot_verdict (by_maxima (maxima_of maxima.now operator) SlotIndex.A) self }
     {
         match self {
             Opposite::Nothing => SlotVerdict::Nothing,
             Opposite::OlderDamaged => SlotVerdict::OlderDamaged,
-            Opposite::Candidate(seq) if counts.of(operator).qualifies(seq) => SlotVerdict::InFlight,
+            Opposite::Candidate(seq) if maxima.of(operator).qualifies(seq) => SlotVerdict::InFlight,
             _ => SlotVerdict::Damage,
         }
     }
@@ -237,15 +237,15 @@ impl PairVerdict {
     }
 
     // After the first pass, of an operator's pair; provisional where a slot is in flight.
-    pub(crate) fn first(counts: &Counts, operator: u8, case: PairCase) -> Self
-        ensures { result ≡ pair_verdict (by_maxima (count_of counts.now operator)) case }
+    pub(crate) fn first(maxima: &OperatorMaxima, operator: u8, case: PairCase) -> Self
+        ensures { result ≡ pair_verdict (by_maxima (maxima_of maxima.now operator)) case }
     {
         match case {
             PairCase::Refused => PairVerdict::no_winner(Standing::Refused),
             PairCase::Lost => PairVerdict::no_winner(Standing::Lost),
             PairCase::Won(index, other) => PairVerdict::winner_beside(
                 index,
-                other.verdict(counts, operator),
+                other.verdict(maxima, operator),
             ),
         }
     }
@@ -297,12 +297,12 @@ impl Tally {
 // ---- the second pass
 
 impl StoreRules {
-    // Whether a write in flight is demoted to damage; the volume record, which is the `first` pair, has a rule of its own. A closure for
-    // each would hold the same test.
-    pub(crate) fn demotes(self, first: bool) -> bool
-        ensures { result ≡ demotes self first }
+    // Whether a write in flight is demoted to damage; `volume`: in the volume record, which has a rule of its own. A closure for each
+    // would hold the same test.
+    pub(crate) fn demotes(self, volume: bool) -> bool
+        ensures { result ≡ demotes self volume }
     {
-        if first {
+        if volume {
             self.volume_demote
         } else {
             self.page_demote

@@ -5,7 +5,7 @@ use Rattle.std.specs.Simd.{first_chunks}
 use Rattle.judge.specs.declared.pairs.Pair.{Pair}
 use Rattle.judge.specs.declared.part.SlotPart.{SlotPart}
 use Rattle.judge.specs.Part.{part_width, part_at, part_shown, is_in_range}
-use Rattle.judge.specs.Frames.{frame_width, verdict_width, operator_in, pair_from, pair_in_range, pair_count, frames, judge_frames}
+use Rattle.judge.specs.Frames.{frame_width, verdict_width, operator_in, pair_from, parts_in_range, pair_count, frames, judge_frames}
 use Rattle.judge.specs.Records.{shown_read, pair_read, judge_records}
 use Rattle.judge.specs.Same.{mark}
 use Rattle.judge.proofs.FrameLaws.{same_test, whole}
@@ -22,11 +22,11 @@ same_shown s within =
     let b : is_in_range (part_at s part_width) ≡ true = grind (arith, within) in
     ap₂ {C = Pair} (λ x y. record { a = x; b = y; operator = operator_in s }) (slot_shown (part_at s 0) a) (slot_shown (part_at s part_width) b)
 
-all_shown : (fs : List (List ℕ)) → list_all pair_in_range fs ≡ true → map pair_read (map pair_of fs) ≡ map pair_from fs
+all_shown : (fs : List (List ℕ)) → list_all parts_in_range fs ≡ true → map pair_read (map pair_of fs) ≡ map pair_from fs
 all_shown [] within = refl
 all_shown (f ∷ fs) within =
-    let first : pair_in_range f ≡ true = grind (arith, within) in
-    let rest : list_all pair_in_range fs ≡ true = grind (arith, within) in
+    let first : parts_in_range f ≡ true = grind (arith, within) in
+    let rest : list_all parts_in_range fs ≡ true = grind (arith, within) in
     ap₂ (λ (p : Pair) (ps : List Pair). p ∷ ps) (same_shown f first) (all_shown fs rest)
 
 -- The library has none.

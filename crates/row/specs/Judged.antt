@@ -6,7 +6,7 @@ use Rattle.judge.specs.declared.verdict.PairVerdict.{PairVerdict}
 use Rattle.judge.specs.declared.verdict.Judgement.{Judgement}
 use Rattle.judge.specs.declared.verdict.JudgeError.{JudgeError}
 use Rattle.judge.specs.declared.records.PairRead.{PairRead}
-use Rattle.judge.specs.Frames.{frame_width, verdict_width, pair_count, pair_in_range, frames, row_bytes, judge_frames}
+use Rattle.judge.specs.Frames.{frame_width, verdict_width, pair_count, parts_in_range, frames, row_bytes, judge_frames}
 use Rattle.judge.specs.Same.{mark}
 use Rattle.judge.specs.Records.{judge_records, records_left as judged_left}
 use Rattle.row.specs.Records.{pair_of}
@@ -39,7 +39,7 @@ verdicts_left s clean room pairs verdicts =
 -- tested by both.
 abbrev pub SameAnswer : Type 0
 SameAnswer =
-    (s : List ℕ) (clean : Bool) (room : ℕ) → length s % frame_width ≡ 0 → list_all pair_in_range (frames s) ≡ true
+    (s : List ℕ) (clean : Bool) (room : ℕ) → length s % frame_width ≡ 0 → list_all parts_in_range (frames s) ≡ true
     → judge_records (records s) clean room ≡ judge_frames s (mark clean) (room * verdict_width)
 
 -- The verdicts' bytes, over as many.

@@ -6,7 +6,7 @@ use Rattle.slot.specs.declared.slot.SlotStatus.{SlotStatus}
 use Rattle.judge.specs.declared.part.SlotPart.{SlotPart}
 use Rattle.judge.specs.declared.records.SlotRead.{SlotRead}
 use Rattle.judge.specs.declared.records.PairRead.{PairRead}
-use Rattle.judge.specs.Frames.{operator_in, pair_from, pair_in_range}
+use Rattle.judge.specs.Frames.{operator_in, pair_from, parts_in_range}
 use Rattle.judge.specs.Records.{pair_read}
 use Rattle.judge.specs.Part.{part_width, numbered_of, part_at, part_status}
 
@@ -29,4 +29,4 @@ pair_of s = record { a = slot_of (part_at s 0); b = slot_of (part_at s part_widt
 
 -- Of a frame whose slots' values are in range the judge is told the same by its record.
 abbrev pub SameShown : Type 0
-SameShown = (s : List ℕ) → pair_in_range s ≡ true → pair_read (pair_of s) ≡ pair_from s
+SameShown = (s : List ℕ) → parts_in_range s ≡ true → pair_read (pair_of s) ≡ pair_from s

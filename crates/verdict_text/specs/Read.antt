@@ -6,7 +6,7 @@ use Rattle.std.specs.Option.{option_map, option_and_then}
 use Rattle.std.specs.Result.{result_ok}
 use Rattle.hex.specs.Hex.{decode_sized}
 use Rattle.judge.specs.Operators.{operator_in_range}
-use Rattle.judge.specs.Frames.{frame_width, operator_in, pair_in_range}
+use Rattle.judge.specs.Frames.{frame_width, operator_in, parts_in_range}
 
 abbrev pub newline : ℕ
 newline = 0x0a
@@ -33,7 +33,7 @@ mark_of _ = None
 -- A frame whose codes, facts and operator are in range; `volume`: of the volume record.
 abbrev pub ranged : Bool → Option (List ℕ) → Option (List ℕ)
 ranged volume None = None
-ranged volume (Some frame) = if pair_in_range frame && operator_in_range volume (operator_in frame) then Some frame else None
+ranged volume (Some frame) = if parts_in_range frame && operator_in_range volume (operator_in frame) then Some frame else None
 
 -- The frame of a line: two digits a byte, all of them in range.
 abbrev pub frame_of : Bool → List ℕ → Option (List ℕ)

@@ -6,7 +6,7 @@ ghost use Rattle.verdict_text.specs.Read.{is_digit, cut, mark_of, frame_of, fram
 ghost use Rattle.verdict_text.specs.Steps.{Holds};
 
 use hex::FromHex;
-use judge::frames::{FRAME, is_in_range, operator};
+use judge::frames::{FRAME, operator, parts_in_range};
 use judge::operators;
 use judge::verdict::MOST_PAIRS;
 
@@ -57,7 +57,7 @@ fn read_frame(volume: bool, line: &[u8]) -> Option<[u8; FRAME]>
         return None;
     }
     let frame = <[u8; FRAME]>::from_hex(line).ok()?;
-    (is_in_range(&frame) && operators::is_in_range(volume, operator(&frame))).then_some(frame)
+    (parts_in_range(&frame) && operators::is_in_range(volume, operator(&frame))).then_some(frame)
 }
 
 // Puts a frame behind so many others, where there is room for it.

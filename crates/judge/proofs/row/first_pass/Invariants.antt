@@ -5,11 +5,11 @@ use Rattle.judge.proofs.row.first_pass.Given as goal
 
 abbrev pub invariant-loop-i : goal.invariant-loop-i
 invariant-loop-i g l = record {
-  tally : tallies l.counts (eqb l.i 0) l.t (map g.P.ReadPair.shown (drop l.i l.pairs)) ≡ tallies l.counts true no_tally (map g.P.ReadPair.shown l.pairs);
+  tally : tallies l.maxima (eqb l.i 0) l.t (map g.P.ReadPair.shown (drop l.i l.pairs)) ≡ tallies l.maxima true no_tally (map g.P.ReadPair.shown l.pairs);
   count : l.t.candidates ≤ l.i;
   room : length (g.V.Verdicts.cells l.out) ≡ length l.pairs;
   written :
-      take l.i (g.V.Verdicts.cells l.out) ++ map g.V.Verdicts.cell (verdicts_by l.counts (map g.P.ReadPair.shown (drop l.i l.pairs)))
-      ≡ map g.V.Verdicts.cell (verdicts_by l.counts (map g.P.ReadPair.shown l.pairs));
+      take l.i (g.V.Verdicts.cells l.out) ++ map g.V.Verdicts.cell (verdicts_by l.maxima (map g.P.ReadPair.shown (drop l.i l.pairs)))
+      ≡ map g.V.Verdicts.cell (verdicts_by l.maxima (map g.P.ReadPair.shown l.pairs));
   place : g.V.Verdicts.place l.out ≡ g.V.Verdicts.place l.initial.out;
 }

@@ -12,7 +12,7 @@ returns-clause-value g c =
     let t = c.first_pass-tally.ensures in
     let s = c.second_pass-heal.ensures in
     let accepted = (answered _ _ _ (rw c.fits.ensures at c.in_ok-admit.ensures.value)).0 in
-    let noted = rw c.new-counts.ensures at c.in_ok-admit.ensures.noted in
+    let noted = rw c.new-maxima.ensures at c.in_ok-admit.ensures.noted in
     rw accepted
     (ap Ok
     (row-judged g.V.Verdicts.cell g.V.Verdicts.read g.met.V.Verdicts.reads_back (map g.P.ReadPair.shown c.args.pairs.now) (c.args.clean == 1) c.in_ok-admit.ensures.range noted t.tally
@@ -21,6 +21,6 @@ returns-clause-value g c =
 pub returns-clause-cells : goal.returns-clause-cells
 returns-clause-cells g c =
     let t = c.first_pass-tally.ensures in
-    let noted = rw c.new-counts.ensures at c.in_ok-admit.ensures.noted in
+    let noted = rw c.new-maxima.ensures at c.in_ok-admit.ensures.noted in
     cells-judged g.V.Verdicts.cell g.V.Verdicts.read g.met.V.Verdicts.reads_back (map g.P.ReadPair.shown c.args.pairs.now) (c.args.clean == 1) c.in_ok-admit.ensures.range noted
     t.tally t.cells c.verdict-volume.ensures c.rules-rules.ensures c.second_pass-heal.ensures.cells

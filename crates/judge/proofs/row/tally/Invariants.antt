@@ -5,6 +5,6 @@ use Rattle.judge.proofs.row.tally.Given as goal
 
 abbrev pub invariant-loop-i : goal.invariant-loop-i
 invariant-loop-i g l = record {
-  tally : tallies l.counts (eqb l.i 0) l.t (map g.P.ReadPair.shown (drop l.i l.pairs)) ≡ tallies l.counts true no_tally (map g.P.ReadPair.shown l.pairs);
+  tally : tallies l.maxima (eqb l.i 0) l.t (map g.P.ReadPair.shown (drop l.i l.pairs)) ≡ tallies l.maxima true no_tally (map g.P.ReadPair.shown l.pairs);
   count : l.t.candidates ≤ l.i;
 }
