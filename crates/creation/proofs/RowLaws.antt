@@ -7,7 +7,7 @@ use Rattle.slot.specs.declared.slot.SlotStatus.{SlotStatus}
 use Rattle.slot.specs.declared.slot.HeaderFacts.{HeaderFacts}
 use Rattle.slot.specs.declared.slot.NumberedHeader.{NumberedHeader}
 use Rattle.judge.specs.Pairs.{is_unsupported, valid, winner, pair_case}
-use Rattle.judge.specs.Records.{payload_shown, shown_of}
+use Rattle.judge.specs.Part.{payload_shown, shown_of}
 use Rattle.judge.specs.Verdict.{no_winner, pair_verdict, is_in_flight, in_flight, is_confirmed, is_without_winner}
 use Rattle.judge.specs.Judge.{verdicts_from, first_verdicts, first_tally, demoted_slot, demoted, last_verdicts, heal, row_rules, verdicts, judgement}
 use Rattle.judge.specs.declared.pairs.PairCase.{PairCase}

@@ -7,8 +7,7 @@ use Rattle.slot.specs.declared.slot.SlotStatus.{SlotStatus}
 use Rattle.slot.specs.declared.slot.HeaderFacts.{HeaderFacts}
 use Rattle.judge.specs.declared.pairs.Version.{Version}
 use Rattle.judge.specs.declared.part.SlotPart.{SlotPart}
-use Rattle.judge.specs.Part.{part_width, part_of, part_bytes, part_at, part_status, part_shown, is_in_range, facts_number}
-use Rattle.judge.specs.Records.{shown_of}
+use Rattle.judge.specs.Part.{part_width, part_of, part_bytes, part_at, part_status, part_shown, shown_of, is_in_range, facts_number}
 use Rattle.judge.specs.Same.{filled, NothingGiven, ChecksumGiven, NumbersGiven, VersionFits}
 
 -- ---- what it shows, and its range

@@ -117,15 +117,27 @@ part_status p = status_of p.code (info_of p.version)
 abbrev pub is_in_range : SlotPart → Bool
 is_in_range p = is_some (part_status p) && nat_le p.facts 2
 
--- By the status, beside these facts and fields.
-abbrev pub shown_beside : ℕ → Version → SlotStatus → Shown
-shown_beside facts v (SlotStatus.Valid i) = Shown.Valid v
-shown_beside facts v SlotStatus.BadPayloadCrc = if facts == 2 then Shown.BadPayload (numbered_of v) else Shown.Other
-shown_beside facts v SlotStatus.BadHeaderCrc = if nat_le 1 facts then Shown.BadHeader v.header_crc32c else Shown.Other
-shown_beside facts v SlotStatus.Blank = Shown.Blank
-shown_beside facts v (SlotStatus.UnsupportedVersion major) = Shown.Unsupported
-shown_beside facts v (SlotStatus.Incompatible flags) = Shown.Unsupported
-shown_beside facts v _ = Shown.Other
+-- The facts that its number and its fields stand for.
+abbrev pub facts_of : SlotPart → Option HeaderFacts
+facts_of p =
+    if p.facts == 0 then None
+    else
+    Some
+    (record { stored_header_crc32c = p.version.header_crc32c; numbered = if p.facts == 2 then Some (numbered_of p.version) else None })
+
+abbrev pub payload_shown : Option NumberedHeader → Shown
+payload_shown None = Shown.Other
+payload_shown (Some n) = Shown.BadPayload n
+
+-- What a slot shows of this status beside these facts.
+abbrev pub shown_of : SlotStatus → Option HeaderFacts → Shown
+shown_of (SlotStatus.Valid i) f = Shown.Valid (version_of_info i)
+shown_of SlotStatus.BadPayloadCrc (Some f) = payload_shown f.numbered
+shown_of SlotStatus.BadHeaderCrc (Some f) = Shown.BadHeader f.stored_header_crc32c
+shown_of SlotStatus.Blank f = Shown.Blank
+shown_of (SlotStatus.UnsupportedVersion major) f = Shown.Unsupported
+shown_of (SlotStatus.Incompatible flags) f = Shown.Unsupported
+shown_of _ _ = Shown.Other
 
 abbrev pub part_shown : SlotPart → Shown
-part_shown p = unwrap_or (option_map (shown_beside p.facts p.version) (part_status p)) Shown.Other
+part_shown p = unwrap_or (option_map (λ status. shown_of status (facts_of p)) (part_status p)) Shown.Other

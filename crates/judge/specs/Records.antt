@@ -1,8 +1,5 @@
 -- The judge over a row of pairs as they were read (docs/FORMAT.md, "The store verdict"; judge.rs).
-use Rattle.std.specs.Prelude.{Bool, true, false, List, ℕ, ◌==◌, length, map, Option, Some, None, Result}
-use Rattle.slot.specs.declared.slot.SlotStatus.{SlotStatus}
-use Rattle.slot.specs.declared.slot.HeaderFacts.{HeaderFacts}
-use Rattle.slot.specs.declared.slot.NumberedHeader.{NumberedHeader}
+use Rattle.std.specs.Prelude.{Bool, true, false, List, ℕ, ◌==◌, length, map, Option, Result}
 use Rattle.judge.specs.declared.pairs.Shown.{Shown}
 use Rattle.judge.specs.declared.pairs.Pair.{Pair}
 use Rattle.judge.specs.declared.verdict.PairVerdict.{PairVerdict}
@@ -10,24 +7,11 @@ use Rattle.judge.specs.declared.verdict.Judgement.{Judgement}
 use Rattle.judge.specs.declared.verdict.JudgeError.{JudgeError}
 use Rattle.judge.specs.declared.records.SlotRead.{SlotRead}
 use Rattle.judge.specs.declared.records.PairRead.{PairRead}
-use Rattle.judge.specs.Part.{version_of_info}
+use Rattle.judge.specs.Part.{shown_of}
 use Rattle.judge.specs.Operators.{operators_in_range}
 use Rattle.judge.specs.Judge.{verdicts, judgement, row_error, unless, left}
 
 -- ---- what the judge is told of a slot, and of a pair
-
-abbrev pub payload_shown : Option NumberedHeader → Shown
-payload_shown None = Shown.Other
-payload_shown (Some n) = Shown.BadPayload n
-
-abbrev pub shown_of : SlotStatus → Option HeaderFacts → Shown
-shown_of (SlotStatus.Valid i) f = Shown.Valid (version_of_info i)
-shown_of SlotStatus.BadPayloadCrc (Some f) = payload_shown f.numbered
-shown_of SlotStatus.BadHeaderCrc (Some f) = Shown.BadHeader f.stored_header_crc32c
-shown_of SlotStatus.Blank f = Shown.Blank
-shown_of (SlotStatus.UnsupportedVersion major) f = Shown.Unsupported
-shown_of (SlotStatus.Incompatible flags) f = Shown.Unsupported
-shown_of _ _ = Shown.Other
 
 abbrev pub shown_read : SlotRead → Shown
 shown_read s = shown_of s.status s.facts
