@@ -114,7 +114,7 @@ fn over_row(input: &[u8], answer: &mut Bytes) -> Option<()> {
         }
         Ok(j) => {
             answer.try_push(0).ok()?;
-            put_judgement(answer, &judgement_values(&j), left)
+            put_judgement(answer, &judgement_values(j), left)
         }
     }
 }

@@ -5,6 +5,7 @@ ghost use Rattle.judge.specs.Values.{error_number};
 ghost use Rattle.store_io.specs.Host.{answer};
 ghost use Rattle.store_io.specs.Judging.{judgement_values};
 
+use crate::answers::give;
 use judge::frames::judge;
 use judge::verdict::Judgement;
 
@@ -22,19 +23,16 @@ pub extern "C" fn sio_judge(
     ensures found { (result, judgement.new) ≡ answer error_number judgement_values judgement.old (judge_frames frames.now clean (length verdicts.old)) }
     ensures verdicts_after { verdicts.new ≡ frames_left frames.now clean verdicts.old }
 {
-    match judge(frames, clean, verdicts) {
-        Ok(judged) => {
-            *judgement = judgement_values(&judged);
-            0
-        }
-        Err(error) => u32::from(error.number()),
-    }
+    give(
+        judge(frames, clean, verdicts).map(judgement_values),
+        judgement,
+    )
 }
 
 // The slot to heal and its pair, zeros without one; writable, clean, refused, whether owners differ.
 // The C interface has a row of numbers for a record.
-pub fn judgement_values(j: &Judgement) -> [u64; JUDGEMENT]
-    ensures { result ≡ judgement_values j.now }
+pub fn judgement_values(j: Judgement) -> [u64; JUDGEMENT]
+    ensures { result ≡ judgement_values j }
 {
     let (slot, pair) = match j.heal {
         Some((pair, index)) => (u64::from(index.number()), pair as u64),

@@ -11,6 +11,7 @@ ghost use Rattle.plan.specs.Promise.{SurvivesCuts};
 ghost use Rattle.store_io.specs.Host.{answer};
 ghost use Rattle.store_io.specs.Planning.{plan_values, heal_values, numbered_slot, next_found, next_answer};
 
+use crate::answers::give;
 use crate::arguments::expect_of;
 use plan::error::PlanError;
 use plan::heal::plan_heal;
@@ -24,13 +25,7 @@ use slot::slot::Expect;
 pub extern "C" fn sio_next_number(frames: &[u8], operator_id: u8, number: &mut u64) -> u32
     ensures { (result, number.new) ≡ answer error_number (λ n. n) number.old (next_number frames.now operator_id) }
 {
-    match next_number(frames, operator_id) {
-        Ok(next) => {
-            *number = next;
-            0
-        }
-        Err(error) => u32::from(error.number()),
-    }
+    give(next_number(frames, operator_id), number)
 }
 
 // One above the numbers of an operator's winners.
@@ -38,13 +33,7 @@ pub extern "C" fn sio_next_number(frames: &[u8], operator_id: u8, number: &mut u
 pub extern "C" fn sio_heal_number(frames: &[u8], operator_id: u8, number: &mut u64) -> u32
     ensures { (result, number.new) ≡ answer error_number (λ n. n) number.old (heal_number frames.now operator_id) }
 {
-    match heal_number(frames, operator_id) {
-        Ok(next) => {
-            *number = next;
-            0
-        }
-        Err(error) => u32::from(error.number()),
-    }
+    give(heal_number(frames, operator_id), number)
 }
 
 // Slot, generation, previous checksum and number; zeros without a plan.
@@ -84,13 +73,7 @@ pub fn heal_values(heal: Option<(usize, Plan)>) -> [u64; 5]
 pub extern "C" fn sio_plan_write(frames: &[u8], pair: usize, plan: &mut [u64; 4]) -> u32
     ensures { (result, plan.new) ≡ answer error_number plan_values plan.old (plan_write frames.now pair) }
 {
-    match plan_write(frames, pair) {
-        Ok(next) => {
-            *plan = plan_values(next);
-            0
-        }
-        Err(error) => u32::from(error.number()),
-    }
+    give(plan_write(frames, pair).map(plan_values), plan)
 }
 
 // The plan of the write that heals.
@@ -98,13 +81,7 @@ pub extern "C" fn sio_plan_write(frames: &[u8], pair: usize, plan: &mut [u64; 4]
 pub extern "C" fn sio_plan_heal(frames: &[u8], clean: u8, plan: &mut [u64; 5]) -> u32
     ensures { (result, plan.new) ≡ answer error_number heal_values plan.old (plan_heal frames.now clean) }
 {
-    match plan_heal(frames, clean) {
-        Ok(heal) => {
-            *plan = heal_values(heal);
-            0
-        }
-        Err(error) => u32::from(error.number()),
-    }
+    give(plan_heal(frames, clean).map(heal_values), plan)
 }
 
 // A slot that is read as numbered in format 2.
@@ -148,7 +125,7 @@ fn numbered_pair(
 }
 
 // Hands over a plan and the header's checksum.
-fn give(
+fn give_write(
     made: Result<Option<(Plan, u32)>, PlanError>,
     plan: &mut [u64; 4],
     header_crc32c: &mut u32,
@@ -208,5 +185,5 @@ pub extern "C" fn sio_next_write(
         payload,
         slot,
     );
-    give(made, plan, header_crc32c)
+    give_write(made, plan, header_crc32c)
 }

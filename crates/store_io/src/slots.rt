@@ -9,6 +9,7 @@ ghost use Rattle.store_io.specs.Arguments.{expect_of, fields_of};
 ghost use Rattle.store_io.specs.Host.{encoded};
 ghost use Rattle.store_io.specs.Slots.{status_answer, facts_values, facts_answer, part_answer};
 
+use crate::answers::give;
 use crate::arguments::{expect_of, index_of, volume_id};
 use judge::pairs::Version;
 use judge::part::{PART, SlotPart, facts_number};
@@ -50,13 +51,7 @@ pub extern "C" fn sio_encode(
         meta_seq,
         compat_flags,
     };
-    match encode(slot, &fields, payload) {
-        Ok(crc) => {
-            *header_crc32c = crc;
-            0
-        }
-        Err(error) => u32::from(error.number()),
-    }
+    give(encode(slot, &fields, payload), header_crc32c)
 }
 
 // The status of a slot and its values.

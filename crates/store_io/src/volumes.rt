@@ -19,13 +19,7 @@ use meta::meta2::{VolumeMeta2, entries_per_page};
 pub extern "C" fn sio_volume_decode(bytes: &[u8], found: &mut [u64; 11]) -> u32
     ensures { (result, found.new) ≡ answer number volume_values found.old (decode_volume bytes.now) }
 {
-    match VolumeMeta2::decode(bytes) {
-        Ok(v) => {
-            *found = volume_values(&v);
-            0
-        }
-        Err(error) => u32::from(error.number()),
-    }
+    give(VolumeMeta2::decode(bytes).map(volume_values), found)
 }
 
 // Encodes a record of 64 bytes.
@@ -70,13 +64,7 @@ pub extern "C" fn sio_volume_encode(
 pub extern "C" fn sio_volume_base_decode(bytes: &[u8], found: &mut [u64; 7]) -> u32
     ensures { (result, found.new) ≡ answer number base_values found.old (decode_base bytes.now) }
 {
-    match VolumeMeta::decode(bytes) {
-        Ok(v) => {
-            *found = base_values(&v);
-            0
-        }
-        Err(error) => u32::from(error.number()),
-    }
+    give(VolumeMeta::decode(bytes).map(base_values), found)
 }
 
 // Encodes the 48 bytes that both formats have.
@@ -170,8 +158,8 @@ pub extern "C" fn sio_check_file_len(
 
 // The numbers of a base, in the layout's order.
 // The C interface has a row of numbers for a record, one for each layout.
-pub fn base_values(v: &VolumeMeta) -> [u64; 7]
-    ensures { result ≡ base_values v.now }
+pub fn base_values(v: VolumeMeta) -> [u64; 7]
+    ensures { result ≡ base_values v }
 {
     [
         u64::from(v.log2_block_size),
@@ -185,10 +173,10 @@ pub fn base_values(v: &VolumeMeta) -> [u64; 7]
 }
 
 // The base's numbers, then pages, entries a page, clean mark and flags.
-pub fn volume_values(v: &VolumeMeta2) -> [u64; 11]
-    ensures { result ≡ volume_values v.now }
+pub fn volume_values(v: VolumeMeta2) -> [u64; 11]
+    ensures { result ≡ volume_values v }
 {
-    let b = base_values(&v.base);
+    let b = base_values(v.base);
     [
         b[0],
         b[1],
