@@ -45,9 +45,9 @@
  *      64   sio_version sio_crc32c sio_crc32c_append sio_crc32c_gap sio_remaining sio_read_u8 sio_read_u16 sio_read_u32
  *           sio_read_u64 sio_read_bytes sio_read_array16 sio_read_array24 sio_write_u8 sio_write_u16 sio_write_u32
  *           sio_write_u64 sio_volume_decode sio_volume_base_decode sio_volume_base_encode sio_entries_per_page sio_table_end
- *           sio_check_file_len sio_decode_page sio_reserved_span
- *     128   sio_write_bytes sio_write_zeros sio_decide sio_next_number sio_heal_number sio_plan_write sio_volume_encode
- *           sio_encode_page sio_read_entry sio_write_entry
+ *           sio_check_file_len sio_decode_page sio_reserved_span sio_heal_number
+ *     128   sio_write_bytes sio_write_zeros sio_decide sio_next_number sio_plan_write sio_volume_encode sio_encode_page
+ *           sio_read_entry sio_write_entry
  *     192   sio_region_name
  *     320   sio_encode sio_region_name_padded
  *     448   sio_header_facts sio_entry_name sio_entry_name_and_kind
