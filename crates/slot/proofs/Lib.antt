@@ -6,3 +6,4 @@ pub mod StatusLaws
 pub mod WrittenLaws
 pub mod RoundTripLaws
 pub mod TableLaws
+pub mod RulesLaws

@@ -6,3 +6,4 @@ pub mod Write
 pub mod Laws
 pub mod Table
 pub mod Numbers
+pub mod Rules

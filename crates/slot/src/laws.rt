@@ -1,6 +1,7 @@
 // Functions that do nothing: each one's contract is a law of slots.
 ghost use Rattle.slot.specs.Header.{HeaderLayout};
 ghost use Rattle.slot.specs.Laws.{PaddingLaw, StatusRange, RoundTrip};
+ghost use Rattle.slot.specs.Rules.{SizeRows, FieldRows, StatusRows, OrderRows, FactRows, WriteRows, PlaceRows, NumberRows};
 ghost use Rattle.slot.specs.Table.{Table};
 
 // Does nothing: its contract is that the header read step by step is the header by its offsets.
@@ -31,4 +32,16 @@ pub fn round_trip_law()
 #[tactic(auto, using(crate::proofs::TableLaws::table))]
 pub fn table_law()
     ensures { Table }
+{}
+
+/// Does nothing: its contract is the rules of a slot by rows, on both sides of each bound.
+pub fn rules_table()
+    ensures sizes { SizeRows }
+    ensures fields { FieldRows }
+    ensures statuses { StatusRows }
+    ensures order { OrderRows }
+    ensures facts { FactRows }
+    ensures writing { WriteRows }
+    ensures places { PlaceRows }
+    ensures numbers { NumberRows }
 {}
