@@ -1,1 +1,2 @@
 pub mod WinnerLaws
+pub mod RulesLaws
