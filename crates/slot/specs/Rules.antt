@@ -1,5 +1,5 @@
 -- The rules of a slot by rows, spelled on both sides of each bound (docs/FORMAT.md, "The slot", "Slot status", "Header facts" and
--- "Writing a slot"). Checksums that are spelled were computed apart from this library.
+-- "Writing a slot"). The checksums that are spelled were computed by `crc32c.rs`.
 use Rattle.std.specs.Prelude.{◌≡◌, Bool, true, false, List, [], ◌∷◌, ◌++◌, ℕ, ◌+◌, ◌-◌, map, take, drop, replicate, Option, Some, None, Result, Ok, Err}
 use Rattle.std.specs.List.{concat}
 use Rattle.std.specs.Int.{w8, w16, w32, w64, to_le_bytes}
