@@ -11,3 +11,4 @@ pub mod VolumeLaws
 pub mod EntryLaws
 pub mod PageLaws
 pub mod TableLaws
+pub mod RulesLaws

@@ -10,3 +10,4 @@ pub mod Entry
 pub mod Check
 pub mod Page
 pub mod Table
+pub mod Rules

@@ -50,6 +50,7 @@ ghost use Rattle.meta.specs.Volume.{tail_at, check_tail, decode_volume, volume_r
 ghost use Rattle.meta.specs.Entry.{read_entry, entry_row, write_entry, name_and_kind, whole_up, reserved_span, to_raw, EntryLayout};
 ghost use Rattle.meta.specs.Check.{check_span, check_header, check_footprint, check_content, check_sizes, check_entry, EntriesBack};
 ghost use Rattle.meta.specs.Table.{Table};
+ghost use Rattle.meta.specs.Rules.{NameRows, Utf8Rows, SizeRows, BaseRows, VolumeRows, TableRows, PageRows, PageEntryRows, PageWriteRows, EntryRows, CheckRows, OrderRows, SpanRows};
 ghost use Rattle.meta.specs.Page.{header_at, decode_page, Gives, parts, entries, seq, shares, check_own, check_entries, header_row, stored_part, encode_page, HeaderLayout, PagesBack, NamesIgnored};
 
 use crate::meta::{
@@ -919,4 +920,22 @@ pub fn ignored_law()
 #[tactic(auto, using(crate::proofs::TableLaws::table))]
 pub fn table_law()
     ensures { Table }
+{}
+
+/// Does nothing: its contract is the rules by rows, both sides of each bound and the order of the refusals.
+#[tactic(auto, using(crate::proofs::RulesLaws::all_rows))]
+pub fn rules_table()
+    ensures name { NameRows }
+    ensures utf8 { Utf8Rows }
+    ensures size { SizeRows }
+    ensures base { BaseRows }
+    ensures volume { VolumeRows }
+    ensures table { TableRows }
+    ensures page { PageRows }
+    ensures page_entry { PageEntryRows }
+    ensures page_write { PageWriteRows }
+    ensures entry { EntryRows }
+    ensures check { CheckRows }
+    ensures order { OrderRows }
+    ensures span { SpanRows }
 {}
