@@ -8,3 +8,4 @@ pub mod HealLaws
 pub mod PartLaws
 pub mod SameLaws
 pub mod AlikeLaws
+pub mod RulesLaws

@@ -11,6 +11,8 @@ ghost use Rattle.judge.specs.Judge.{demoted, demotes, store_rules, writable, pai
 ghost use Rattle.judge.specs.Values.{standing_number, standing_from, slot_verdict_number, slot_verdict_from, choice_from, heal_slot, heal_pair, error_number, NumbersBack};
 ghost use Rattle.judge.specs.Alike.{OwnersAside, LosersUnread};
 ghost use Rattle.judge.specs.Passes.{tallied};
+ghost use Rattle.judge.specs.Rules.{ShownRows, FirstPassRows, OppositeRows, NumberRows, OperatorRows, StoreRows, OwnerRows};
+ghost use Rattle.judge.specs.FrameRules.{ValueRows, FrameRows, RefusalRows, RecordRows};
 
 use crate::numbers::OperatorMaxima;
 use crate::pairs::{Opposite, PairCase};
@@ -368,4 +370,21 @@ pub fn owners_law()
 #[tactic(auto, using(crate::specs::ReadBack::numbers_back))]
 pub fn numbers_law()
     ensures { NumbersBack }
+{}
+
+/// Does nothing: its contract is the rules by rows, on both sides of each bound: what a slot shows, the verdicts on pairs and on the store, the
+/// owners, and the judge over frames and over records with what it refuses.
+#[tactic(auto, using(crate::proofs::RulesLaws::shown_rows, crate::proofs::RulesLaws::first_pass_rows, crate::proofs::RulesLaws::opposite_rows, crate::proofs::RulesLaws::number_rows, crate::proofs::RulesLaws::operator_rows, crate::proofs::RulesLaws::store_rows, crate::proofs::RulesLaws::owner_rows, crate::proofs::RulesLaws::value_rows, crate::proofs::RulesLaws::frame_rows, crate::proofs::RulesLaws::refusal_rows, crate::proofs::RulesLaws::record_rows))]
+pub fn rules_table()
+    ensures shown { ShownRows }
+    ensures first_pass { FirstPassRows }
+    ensures opposite { OppositeRows }
+    ensures numbers { NumberRows }
+    ensures operators { OperatorRows }
+    ensures store { StoreRows }
+    ensures owners { OwnerRows }
+    ensures values { ValueRows }
+    ensures frames { FrameRows }
+    ensures refusals { RefusalRows }
+    ensures records { RecordRows }
 {}
