@@ -5,6 +5,7 @@
 ghost use Rattle.std.specs.Prelude.{◌≡◌, length};
 ghost use Rattle.row.specs.Records.{status_from, facts_from, slot_of, pair_of, SameShown};
 ghost use Rattle.row.specs.Judged.{SameAnswer, judge_row, verdicts_left, records_left, bytes_left};
+ghost use Rattle.row.specs.Rules.{RecordRows, RefusalRows, LeftRows};
 
 use judge::frames::{FRAME, VERDICT, operator, parts};
 use judge::part::SlotPart;
@@ -113,3 +114,11 @@ pub fn put_verdicts(verdicts: &[PairVerdict], out: &mut [u8])
         out[at..at + VERDICT].copy_from_slice(&v.bytes());
     }
 }
+
+/// Does nothing: its contract is the rules by rows, on both sides of each bound: the records of frames, what is refused, and what is left.
+#[tactic(auto, using(crate::proofs::RulesLaws::record_rows, crate::proofs::RulesLaws::refusal_rows, crate::proofs::RulesLaws::left_rows))]
+pub fn rules_table()
+    ensures records { RecordRows }
+    ensures refusals { RefusalRows }
+    ensures left { LeftRows }
+{}
