@@ -9,7 +9,7 @@ use std::process::ExitCode;
 
 const SEED: u64 = 0x5106;
 
-const LIMIT: usize = 60_000;
+const LIMIT: usize = 80_000;
 
 pub struct List {
     pub text: String,

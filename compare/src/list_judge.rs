@@ -13,7 +13,7 @@
 use crate::frames::{
     bad_header, bad_payload, nothing, packed, pair, valid, Pair, Slot, BAD_HEADER, BLANK, BLANK_A, BLANK_B, FIRST,
     FORK, FRAME, HALF, LOST, LOST_NUMBER, NO_LINK, NUMBER_ABOVE, NUMBER_BELOW, NUMBER_LAST, OLDER_HEADER_A,
-    OLDER_HEADER_B, OLDER_PAYLOAD_A, OLDER_PAYLOAD_B, OTHER_OWNER, REFUSED_A, REFUSED_B, SOUND_A, SOUND_B,
+    OLDER_HEADER_B, OLDER_PAYLOAD_A, OLDER_PAYLOAD_B, OTHER_OWNER, OWNER, REFUSED_A, REFUSED_B, SOUND_A, SOUND_B,
     TORN_HEADER_A, TORN_HEADER_B, TORN_PAYLOAD_A, TORN_PAYLOAD_B, UNREAD_A, UNREAD_B, VALID,
 };
 use crate::judge_reference::{judge, judge_records, Judged, MOST_PAIRS, VERDICT};
@@ -26,10 +26,15 @@ const EXAMPLE: [Pair; 2] = [
     pair(Slot { facts: 0, own: 0x2222_2222, previous: 0x3333_3333, ..valid(2, 2) }, bad_header(0x4444_4444)),
 ];
 
-/// The pair with another owner in a slot.
-const fn by_other(mut pair: Pair, slot: usize) -> Pair {
-    pair.slots[slot].owner = OTHER_OWNER;
+/// The pair with this owner in a slot.
+const fn by_owner(mut pair: Pair, slot: usize, owner: u64) -> Pair {
+    pair.slots[slot].owner = owner;
     pair
+}
+
+/// The pair with another owner in a slot.
+const fn by_other(pair: Pair, slot: usize) -> Pair {
+    by_owner(pair, slot, OTHER_OWNER)
 }
 
 /// Ahead in number of every other pair, and beside a torn payload of the same number.
@@ -103,6 +108,40 @@ const ROWS: &[(u8, &[Pair])] = &[
     (0, &[FIRST, pair(valid(2, 2), Slot { facts: 0, ..bad_header(7) })]),
     (0, &[FIRST, pair(valid(2, 2), Slot { code: BAD_HEADER, ..bad_payload(9, 9, 9) })]),
     (0, &[FIRST, pair(Slot { facts: 1, ..bad_payload(3, 3, 0x1111_1111) }, Slot { facts: 0, ..valid(2, 2) })]),
+    // A torn payload that stores another previous checksum, or one that differs in its highest byte; of the winner's generation, two
+    // above it, and 2^32 and one above it; with a number 2^32 too high
+    (0, &[SOUND_A, NO_LINK]),
+    (0, &[SOUND_A, pair(valid(2, 4), bad_payload(3, 5, 0x0111_1111))]),
+    (0, &[SOUND_A, pair(bad_payload(2, 5, 0x1111_1111), valid(2, 4))]),
+    (0, &[SOUND_A, pair(valid(2, 4), bad_payload(4, 5, 0x1111_1111))]),
+    (0, &[SOUND_A, pair(valid(2, 4), bad_payload(0x1_0000_0003, 5, 0x1111_1111))]),
+    (0, &[SOUND_A, pair(valid(2, 4), bad_payload(3, 0x1_0000_0005, 0x1111_1111))]),
+    // A torn header whose checksum differs from the winner's previous one in its highest byte
+    (0, &[SOUND_A, pair(valid(2, 4), bad_header(0x0222_2222))]),
+    // Two Valid slots: the lower number in the higher generation, and forks in which one is chained to the other
+    (0, &[SOUND_A, pair(valid(3, 3), valid(2, 4))]),
+    (0, &[SOUND_A, pair(valid(2, 4), Slot { previous: 0x1111_1111, ..valid(2, 5) })]),
+    (0, &[SOUND_A, pair(Slot { previous: 0x1111_1111, ..valid(2, 5) }, valid(2, 4))]),
+    // A torn volume record beside a refused page, and beside a torn page whose number is not the next one
+    (0, &[TORN_HEADER_A, REFUSED_A]),
+    (1, &[TORN_PAYLOAD_A, SOUND_B, REFUSED_A]),
+    (0, &[TORN_HEADER_A, NUMBER_ABOVE]),
+    // A torn page beside a lost one and a refused one; three torn pages
+    (0, &[SOUND_A, TORN_HEADER_A, LOST]),
+    (0, &[SOUND_A, TORN_HEADER_A, REFUSED_B]),
+    (0, &[SOUND_A, TORN_HEADER_A, TORN_HEADER_B, TORN_PAYLOAD_A]),
+    // A torn second page beside a volume record that is Unconfirmed, and a torn page beside one that is lost
+    (0, &[UNREAD_B, SOUND_A, TORN_HEADER_A]),
+    (0, &[LOST, TORN_HEADER_A]),
+    // Owners: 0, of a page, of pair 0 and of both; 2^32 apart; of an Unconfirmed winner; with a lost pair between
+    (0, &[SOUND_A, by_owner(FIRST, 0, 0)]),
+    (0, &[by_owner(FIRST, 0, 0), SOUND_A]),
+    (0, &[by_owner(FIRST, 0, 0), by_owner(FIRST, 0, 0)]),
+    (0, &[SOUND_A, by_owner(FIRST, 0, OWNER + (1 << 32))]),
+    (0, &[SOUND_A, by_other(UNREAD_A, 1)]),
+    (0, &[SOUND_A, LOST, by_other(FIRST, 0)]),
+    // Operators that are 8 apart
+    (0, &[FIRST, TORN_PAYLOAD_B.by_operator(1), AHEAD.by_operator(9)]),
 ];
 
 /// Of the judge over frames: clean mark, length of the frames, length of the verdicts, and a byte of the frames with its
