@@ -5,3 +5,4 @@ pub mod Plan
 pub mod Heal
 pub mod Next
 pub mod Promise
+pub mod Rules

@@ -2,6 +2,7 @@
 ghost use Rattle.plan.specs.Numbers.{WinnersOfVerdicts, WinnersOfOne};
 ghost use Rattle.plan.specs.Plan.{NotTheWinner};
 ghost use Rattle.plan.specs.Heal.{HealsTheNamed};
+ghost use Rattle.plan.specs.Rules.{PlanRows, NumberRows, HealRows, WriteRows, ErrorRows};
 ghost use Rattle.plan.specs.Promise.{AnyGiven, AnyPlannedFor, MoreRefused, PlannedIsCorrect, BothKindsSurvived, FinishedIsSound};
 
 // Does nothing: its contract is that the winners whose numbers `heal_number` goes by are those of the judge's verdicts, and all of them
@@ -48,4 +49,14 @@ pub fn asked_law()
 // Does nothing: its contract is that a correct write which is finished leaves a sound store whose last record is the payload.
 pub fn finished_law()
     ensures { FinishedIsSound }
+{}
+
+/// Does nothing: its contract is the rules of numbers, plans and next writes by rows, on both sides of each bound, and the numbers of what
+/// is refused.
+pub fn rules_table()
+    ensures plans { PlanRows }
+    ensures numbers { NumberRows }
+    ensures heals { HealRows }
+    ensures writes { WriteRows }
+    ensures errors { ErrorRows }
 {}
