@@ -1,7 +1,8 @@
 //! Prints the fixed lists: cases with the reference's answers, one a line, for a program that needs no Rust.
 //!
 //! A line is `NAME INPUT EXPECTED`, both fields packed and in hex, `-` where empty. Numbers are little-endian in their
-//! own width. list_codec.rs, list_slots.rs, list_judge.rs and list_meta.rs have a table each of what the fields hold.
+//! own width. list_codec.rs, list_slots.rs, list_judge.rs, list_plan.rs and list_meta.rs have a table each of what the
+//! fields hold.
 
 use crate::rng::Rng;
 use crate::value::{hex, Value};

@@ -83,6 +83,7 @@ mod list;
 mod list_codec;
 mod list_judge;
 mod list_meta;
+mod list_plan;
 mod list_slots;
 mod meta_reference;
 mod name_sample;
@@ -161,7 +162,7 @@ const QUICK_LISTS: u64 = 700;
 const LONG_LISTS: u64 = 7_000;
 
 const USAGE: &str = "usage: compare quick | long [SEED] | cuts [long [SEED]] | histories [long [SEED]] | \
-    verdicts PROGRAM [SEED] | rows PROGRAM [SEED] | list codec|slots|judge|meta | bench";
+    verdicts PROGRAM [SEED] | rows PROGRAM [SEED] | list codec|slots|judge|plan|meta | bench";
 
 const BAD_SEED: &str = "SEED is a number, decimal or hex with 0x";
 
@@ -203,6 +204,7 @@ fn main() -> ExitCode {
         ["list", "codec"] => list::print(list_codec::fill),
         ["list", "slots"] => list::print(list_slots::fill),
         ["list", "judge"] => list::print(list_judge::fill),
+        ["list", "plan"] => list::print(list_plan::fill),
         ["list", "meta"] => list::print(list_meta::fill),
         ["bench"] => bench::run(),
         _ => fail(USAGE),
