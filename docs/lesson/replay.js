@@ -1,6 +1,6 @@
-// Replays the four fixed lists of the reference's answers against WebAssembly modules of the library, through docs/lesson/library.js.
-// What a case holds, and how its answer is packed, is said in crates/replay, replay_slots, replay_meta and replay_judge (src/main.rt). It
-// is the same here, but that what a function is to fill holds bytes of 255 before each call.
+// Replays the five fixed lists of the reference's answers against WebAssembly modules of the library, through docs/lesson/library.js.
+// What a case holds, and how its answer is packed, is said in crates/replay, replay_slots, replay_meta, replay_judge and replay_plan
+// (src/main.rt). It is the same here, but that what a function is to fill holds bytes of 255 before each call.
 //
 // The functions that no list asks are asked directly. What they have to answer is by include/store_io.h and docs/FORMAT.md. A function
 // of the header that was not called at the end is an error.
@@ -88,6 +88,11 @@ const slot = input => {
     bytes.set(input.bytes(input.left.length));
     return { slot: bytes };
 };
+// frames: how often the first one stands, that one, and the others,
+const frames = (input, parameters, { SIO_FRAME_LEN: length }) => {
+    const times = input.length(), bytes = input.bytes(input.left.length), first = bytes.subarray(0, length);
+    return { frames: Uint8Array.from(Buffer.concat([...new Array(times).fill(first), bytes.subarray(length)])) };
+};
 // and bytes that stand for no parameter.
 const unused = count => input => { input.bytes(count); };
 
@@ -162,11 +167,18 @@ const LISTS = {
         rsp: [refusable, 'sio_reserved_span', numbers, unused(8), rest('entry')],
     },
     replay_judge: { jdg: judged, frm: judged },
+    replay_plan: {
+        num: [refusable, 'sio_next_number', numbers, frames],
+        win: [refusable, 'sio_heal_number', numbers, frames],
+        pln: [refusable, 'sio_plan_write', numbers, frames],
+        hea: [refusable, 'sio_plan_heal', numbers, frames],
+        wrt: [refusable, 'sio_next_write', numbers, filled('slot'), measured('payload'), frames],
+    },
 };
 
 // The answer to an input, in hexadecimal. A call that does not come back gives its error.
-function answerOf([pack, name, ...fields], input, ask, signatures) {
-    const given = Object.assign({}, ...fields.map(field => field(input, signatures[name].parameters)));
+function answerOf([pack, name, ...fields], input, ask, { signatures, constants }) {
+    const given = Object.assign({}, ...fields.map(field => field(input, signatures[name].parameters, constants)));
     if (input.left.length > 0) throw new Error(`${input.at}: the input is too long`);
     try {
         return pack(ask(name, given)).toString('hex');
@@ -176,7 +188,7 @@ function answerOf([pack, name, ...fields], input, ask, signatures) {
 }
 
 // Replays a list: how many cases are equal and how many there are, how many of each name are left out, and what differs.
-function replayed(list, ask, signatures) {
+function replayed(list, ask, declared) {
     const result = { list, equal: 0, cases: 0, leftOut: {}, different: [] };
     const lines = readFileSync(path.join(root, 'crates', list, 'stdin'), 'latin1').split('\n');
     if (lines.pop() !== '') throw new Error(`${list}: the last line has no end`);
@@ -189,7 +201,7 @@ function replayed(list, ask, signatures) {
             return;
         }
         if (!Object.hasOwn(LISTS[list], name)) throw new Error(`${at}: no function is known for ${name}`);
-        const got = answerOf(LISTS[list][name], new Input(Buffer.from(input.replace('-', ''), 'hex'), at), ask, signatures) || '-';
+        const got = answerOf(LISTS[list][name], new Input(Buffer.from(input.replace('-', ''), 'hex'), at), ask, declared) || '-';
         result.cases += 1;
         if (got === want) result.equal += 1;
         else result.different.push(`${at}, ${name}\n got  ${got}\n want ${want}`);
@@ -327,10 +339,11 @@ async function refusedCalls(library, module, signatures) {
 // ---- modules
 
 // Whether a module answers as it has to; prints a line of it, and before it what differs first.
-async function replay(file, { signatures, constants }) {
+async function replay(file, declared) {
+    const { signatures, constants } = declared;
     const module = readFileSync(file), library = await instantiate(module, signatures);
     const called = new Set(), ask = asker(library, signatures, called);
-    const lists = Object.keys(LISTS).map(list => replayed(list, ask, signatures)), direct = directCalls(ask, constants);
+    const lists = Object.keys(LISTS).map(list => replayed(list, ask, declared)), direct = directCalls(ask, constants);
     const refused = await refusedCalls(library, module, signatures);
     const different = [...lists, direct, refused].flatMap(result => result.different);
     const idle = Object.keys(signatures).filter(name => !called.has(name));
