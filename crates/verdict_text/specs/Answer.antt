@@ -1,10 +1,9 @@
 -- What program `verdicts` answers to a text (docs/FORMAT.md, "The program verdicts"), what it leaves of the text that a reader has, and
 -- what it adds to the bytes that a writer holds. Readers and writers in memory say what they have and hold; of others these facts claim
 -- nothing.
-use Rattle.std.specs.Prelude.{◌≡◌, Bool, false, if◌then◌else◌, ◌||◌, nat_lt, List, ℕ, ◌*◌, ◌<◌, length, take, drop, Option, Some, None, Result, Ok, Err, IfSome}
+use Rattle.std.specs.Prelude.{◌≡◌, ⊤, Bool, false, if◌then◌else◌, ◌||◌, nat_lt, List, ℕ, ◌*◌, ◌<◌, length, take, drop, Option, Some, None, Result, Ok, Err, IfSome}
 use Rattle.std.specs.Int.{from_bool}
 use Rattle.std.specs.Io.KnownBytes.{Keeps, Appends}
-use Rattle.std.specs.declared.io.Error.{Error}
 use Rattle.judge.specs.declared.verdict.Judgement.{Judgement}
 use Rattle.judge.specs.declared.verdict.JudgeError.{JudgeError}
 use Rattle.judge.specs.Judge.{verdicts, judgement}
@@ -12,6 +11,8 @@ use Rattle.judge.specs.Frames.{verdict_width, pair_count, row, row_bytes, frames
 use Rattle.judge.specs.Values.{error_number}
 use Rattle.verdict_text.specs.declared.answer.Refusal.{Refusal}
 use Rattle.verdict_text.specs.declared.answer.AnswerError.{AnswerError}
+use Rattle.verdict_text.specs.declared.stream.Calls.{Calls}
+use Rattle.verdict_text.specs.Calls.{Failed, WriteFailed}
 use Rattle.verdict_text.specs.Read.{store_in}
 use Rattle.verdict_text.specs.Write.{refusal_line, judgement_text}
 
@@ -57,11 +58,6 @@ answer_text text = response_text text false
 
 -- ---- reader and writer
 
--- The error of the call that failed.
-abbrev pub cause : AnswerError → Error
-cause (AnswerError.Read error) = error
-cause (AnswerError.Write error) = error
-
 -- A reader lost the first n bytes of its text.
 abbrev pub Loses : ℕ → Option (List ℕ) → Option (List ℕ) → Type 0
 Loses n old new = IfSome old (λ text. new ≡ Some (drop n text))
@@ -85,3 +81,9 @@ abbrev pub Written : {T : Type 0} → Option (List ℕ) → Option (List ℕ) �
 Written text old new (Ok done) = IfSome text (λ s. Appends old new (answer_text s))
 Written text old new (Err (AnswerError.Read error)) = Keeps old new
 Written text old new (Err (AnswerError.Write error)) = IfSome text (λ s. AppendsFront old new (answer_text s))
+
+-- An error is that of the last read or write, by what the reader's and the writer's calls answered.
+abbrev pub Reported : {T : Type 0} → Calls → Calls → Result T AnswerError → Type 0
+Reported reads writes (Ok done) = ⊤
+Reported reads writes (Err (AnswerError.Read error)) = Failed reads error
+Reported reads writes (Err (AnswerError.Write error)) = WriteFailed writes error

@@ -1,6 +1,6 @@
 -- The lines that program `verdicts` prints (docs/FORMAT.md, "The program verdicts"): a line a pair, then one line for the store; or R
 -- and a number. Bytes are two lower-case hexadecimal digits each, and a newline ends every line.
-use Rattle.std.specs.Prelude.{List, [], ◌∷◌, ◌++◌, ℕ, ◌+◌, ◌*◌, ◌/◌, ◌%◌, length, take}
+use Rattle.std.specs.Prelude.{List, [], ◌∷◌, ◌++◌, ℕ, ◌+◌, ◌*◌, ◌/◌, ◌%◌, length, take, drop}
 use Rattle.std.specs.Int.{w64, to_le_bytes, from_bool}
 use Rattle.std.specs.List.{flat_map}
 use Rattle.std.specs.Simd.{first_chunks}
@@ -38,3 +38,7 @@ judgement_bytes j =
 -- A line a verdict, then the last one.
 abbrev pub judgement_text : List ℕ → Judgement → List ℕ
 judgement_text verdicts j = flat_map line (first_chunks verdict_width (length verdicts / verdict_width) verdicts) ++ line (judgement_bytes j)
+
+-- The bytes in the place of as many at the start of a buffer.
+abbrev pub over : List ℕ → List ℕ → List ℕ
+over bytes buffer = bytes ++ drop (length bytes) buffer

@@ -1,21 +1,22 @@
 // The answer to a text, and reading the one and writing the other.
-ghost use Rattle.std.specs.Prelude.{◌≡◌, ◌≢◌, ◌+◌, ◌*◌, ◌≤◌, length, take, IfOk, IfErr, MatchResult};
+ghost use Rattle.std.specs.Prelude.{◌≡◌, ◌+◌, ◌*◌, ◌≤◌, length, take, Some, IfOk, IfErr, MatchResult};
 ghost use Rattle.std.specs.Io.{ReadsAtMost, WritesAtMost};
 ghost use Rattle.std.specs.Io.KnownBytes.{Appends, ReadConsumes, WriteAppends};
-ghost use Rattle.std.specs.IoError.{error_kind};
 ghost use Rattle.judge.specs.Judge.{most_pairs};
 ghost use Rattle.judge.specs.Frames.{verdict_width};
-ghost use Rattle.verdict_text.specs.Write.{verdict_line, last_line};
-ghost use Rattle.verdict_text.specs.Answer.{refusal_number, is_long, judged, response_text, Left, Written, LosesFewer, AppendsFront, cause};
+ghost use Rattle.verdict_text.specs.Write.{verdict_line, last_line, over};
+ghost use Rattle.verdict_text.specs.Calls.{Failed, WriteFailed};
+ghost use Rattle.verdict_text.specs.Answer.{refusal_number, is_long, judged, response_text, Left, Written, Reported, LosesFewer, AppendsFront};
 ghost use Rattle.verdict_text.specs.Steps.{Fills, Reads};
 ghost use Rattle.verdict_text.specs.Examples.{TextExamples};
 
 use crate::read::{FRAMES, read_store};
+use crate::stream::{Sink, Source, is_interruption};
 use crate::write::{LAST_LINE, VERDICT_LINE, write_judgement, write_refusal};
 use judge::frames::{FRAME, VERDICT, judge};
 use judge::verdict::{JudgeError, Judgement, MOST_PAIRS};
 use std::fmt;
-use std::io::{self, ErrorKind, Read, Write};
+use std::io::{self, ErrorKind};
 
 // No heap: one buffer has the room of the longest text, the others that of the most pairs of a judgement, and beside each goes how many of
 // its bytes count.
@@ -26,7 +27,8 @@ const LONGEST: usize = 65536;
 /// The room that the verdicts of a judgement and the answer take.
 const VERDICTS: usize = MOST_PAIRS * VERDICT;
 
-const ROOM: usize = MOST_PAIRS * VERDICT_LINE + LAST_LINE;
+/// The room that the longest answer takes: 1,027 bytes.
+pub const ROOM: usize = MOST_PAIRS * VERDICT_LINE + LAST_LINE;
 
 /// Why a text is not judged.
 #[derive(Clone, Copy)]
@@ -70,55 +72,56 @@ impl fmt::Display for AnswerError {
     }
 }
 
-/// Writes the answer to the text that `input` has left. Of a longer text the byte past the longest is read, and none after it. A call that
-/// a signal interrupts is made again, and a write that takes nothing is a failure.
-pub fn answer<R: Read, W: Write>(input: &mut R, output: &mut W) -> Result<(), AnswerError>
-    ensures left { Left (R.remaining input.old) (R.remaining input.new) result }
-    ensures written { Written (R.remaining input.old) (W.contents output.old) (W.contents output.new) result }
-    ensures retried { IfErr result (λ e. error_kind (cause e) ≢ ErrorKind.Interrupted) }
+/// Writes the answer to the text that `source` has left. Of a longer text the byte past the longest is read, and none after it. A call that
+/// a signal interrupts is made again, and a write that takes nothing is a failure. An error is one that a call answered: no memory is
+/// asked for, and nothing else can fail.
+pub fn answer<S: Source, K: Sink>(source: &mut S, sink: &mut K) -> Result<(), AnswerError>
+    ensures left { Left (S.remaining source.old) (S.remaining source.new) result }
+    ensures written { Written (S.remaining source.old) (K.contents sink.old) (K.contents sink.new) result }
+    ensures reported { Reported (S.calls source.new) (K.calls sink.new) result }
 {
     let mut text = [0u8; LONGEST];
-    let (held, more) = match read_text(input, &mut text) {
+    let (held, more) = match read_text(source, &mut text) {
         Ok(read) => read,
         Err(error) => return Err(AnswerError::Read(error)),
     };
     let mut response = [0u8; ROOM];
     let length = respond(&text[..held], more, &mut response);
-    match put(output, &response[..length]) {
+    match put(sink, &response[..length]) {
         Ok(()) => Ok(()),
         Err(error) => Err(AnswerError::Write(error)),
     }
 }
 
 // Fills `text`, and tells how many bytes it holds and whether more follow.
-fn read_text<R: Read>(input: &mut R, text: &mut [u8]) -> io::Result<(usize, bool)>
+fn read_text<S: Source>(source: &mut S, text: &mut [u8]) -> io::Result<(usize, bool)>
     ensures bound { IfOk result (λ read. read.0 ≤ length text.new) }
-    ensures bytes { MatchResult result (λ read. Reads (R.remaining input.old) (R.remaining input.new) read.0 read.1 text.new)
-        (λ _. LosesFewer (length text.old + 1) (R.remaining input.old) (R.remaining input.new)) }
-    ensures retried { IfErr result (λ e. error_kind e ≢ ErrorKind.Interrupted) }
+    ensures bytes { MatchResult result (λ read. Reads (S.remaining source.old) (S.remaining source.new) read.0 read.1 text.new)
+        (λ _. LosesFewer (length text.old + 1) (S.remaining source.old) (S.remaining source.new)) }
+    ensures failed { IfErr result (λ e. Failed (S.calls source.new) e) }
 {
-    let held = fill(input, text)?;
+    let held = fill(source, text)?;
     if held < text.len() {
         return Ok((held, false));
     }
     let mut next = [0u8; 1];
-    let more = fill(input, &mut next)? == 1;
+    let more = fill(source, &mut next)? == 1;
     Ok((held, more))
 }
 
 // By how many bytes are held, here and in `put`: each call tells how many it gave or took, and a loop without that number would cut the
 // rest off a slice that is lent to it, no plainer.
 
-// Reads until `buffer` is full or the input ends, and tells how many bytes stand at its start.
-fn fill<R: Read>(input: &mut R, buffer: &mut [u8]) -> io::Result<usize>
+// Reads until `buffer` is full or the source ends, and tells how many bytes stand at its start.
+fn fill<S: Source>(source: &mut S, buffer: &mut [u8]) -> io::Result<usize>
     ensures bound { ReadsAtMost result buffer.new }
-    ensures bytes { MatchResult result (λ n. Fills (R.remaining input.old) (R.remaining input.new) n buffer.new)
-        (λ _. LosesFewer (length buffer.old) (R.remaining input.old) (R.remaining input.new)) }
-    ensures retried { IfErr result (λ e. error_kind e ≢ ErrorKind.Interrupted) }
+    ensures bytes { MatchResult result (λ n. Fills (S.remaining source.old) (S.remaining source.new) n buffer.new)
+        (λ _. LosesFewer (length buffer.old) (S.remaining source.old) (S.remaining source.new)) }
+    ensures failed { IfErr result (λ e. Failed (S.calls source.new) e) }
 {
     let mut held = 0;
     while held < buffer.len() {
-        match read_some(input, &mut buffer[held..])? {
+        match read_some(source, &mut buffer[held..])? {
             0 => return Ok(held),
             n => held += n,
         }
@@ -126,31 +129,31 @@ fn fill<R: Read>(input: &mut R, buffer: &mut [u8]) -> io::Result<usize>
     Ok(held)
 }
 
-// One read, made again where a signal interrupts it. Not one function with `write_some`: it would take the call as a closure, whose
-// contract would be that of `read` or of `write` once more.
-fn read_some<R: Read>(input: &mut R, buffer: &mut [u8]) -> io::Result<usize>
+// One read, made again where a signal interrupts it, 2^64 - 1 times at most. Not one function with `write_some`: it would take the call as
+// a closure, whose contract would be that of `read` or of `write` once more.
+fn read_some<S: Source>(source: &mut S, buffer: &mut [u8]) -> io::Result<usize>
     ensures bound { ReadsAtMost result buffer.new }
-    ensures bytes { ReadConsumes (R.remaining input.old) (R.remaining input.new) result buffer.new }
-    ensures retried { IfErr result (λ e. error_kind e ≢ ErrorKind.Interrupted) }
+    ensures bytes { ReadConsumes (S.remaining source.old) (S.remaining source.new) result buffer.new }
+    ensures failed { IfErr result (λ e. Failed (S.calls source.new) e) }
 {
-    for _ in 0..u64::MAX {
-        match input.read(buffer) {
-            Err(error) if error.kind() == ErrorKind::Interrupted => {}
-            result => return result,
+    for _ in 1..u64::MAX {
+        let answer = source.read(buffer);
+        if !is_interruption(&answer) {
+            return answer;
         }
     }
-    Err(ErrorKind::TimedOut.into())
+    source.read(buffer)
 }
 
 // Writes all of `bytes`.
-fn put<W: Write>(output: &mut W, bytes: &[u8]) -> io::Result<()>
-    ensures bytes { MatchResult result (λ _. Appends (W.contents output.old) (W.contents output.new) bytes.now)
-        (λ _. AppendsFront (W.contents output.old) (W.contents output.new) bytes.now) }
-    ensures retried { IfErr result (λ e. error_kind e ≢ ErrorKind.Interrupted) }
+fn put<K: Sink>(sink: &mut K, bytes: &[u8]) -> io::Result<()>
+    ensures bytes { MatchResult result (λ _. Appends (K.contents sink.old) (K.contents sink.new) bytes.now)
+        (λ _. AppendsFront (K.contents sink.old) (K.contents sink.new) bytes.now) }
+    ensures failed { IfErr result (λ e. WriteFailed (K.calls sink.new) e) }
 {
     let mut done = 0;
     while done < bytes.len() {
-        match write_some(output, &bytes[done..])? {
+        match write_some(sink, &bytes[done..])? {
             0 => return Err(ErrorKind::WriteZero.into()),
             n => done += n,
         }
@@ -159,24 +162,27 @@ fn put<W: Write>(output: &mut W, bytes: &[u8]) -> io::Result<()>
 }
 
 // One write, made again where a signal interrupts it.
-fn write_some<W: Write>(output: &mut W, bytes: &[u8]) -> io::Result<usize>
+fn write_some<K: Sink>(sink: &mut K, bytes: &[u8]) -> io::Result<usize>
     ensures bound { WritesAtMost result bytes.now }
-    ensures bytes { WriteAppends (W.contents output.old) (W.contents output.new) result bytes.now }
-    ensures retried { IfErr result (λ e. error_kind e ≢ ErrorKind.Interrupted) }
+    ensures bytes { WriteAppends (K.contents sink.old) (K.contents sink.new) result bytes.now }
+    ensures noted { (K.calls sink.new).last ≡ Some result }
+    ensures failed { IfErr result (λ e. Failed (K.calls sink.new) e) }
 {
-    for _ in 0..u64::MAX {
-        match output.write(bytes) {
-            Err(error) if error.kind() == ErrorKind::Interrupted => {}
-            result => return result,
+    for _ in 1..u64::MAX {
+        let answer = sink.write(bytes);
+        if !is_interruption(&answer) {
+            return answer;
         }
     }
-    Err(ErrorKind::TimedOut.into())
+    sink.write(bytes)
 }
 
-// The answer to a text, of which more bytes may follow, at the start of `response`.
-fn respond(text: &[u8], more: bool, response: &mut [u8; ROOM]) -> usize
-    ensures bound { result ≤ length response.new }
-    ensures bytes { take result response.new ≡ response_text text.now more }
+/// Writes the answer to a text to the start of `response`, and tells how many bytes it has; the bytes after it stay. `more`: whether others
+/// follow those of `text`. A caller that holds 65,536 bytes has all of a text that is judged.
+#[tactic(auto, using(crate::proofs::WriteLaws::end_of, crate::proofs::WriteLaws::over_by))]
+pub fn respond(text: &[u8], more: bool, response: &mut [u8; ROOM]) -> usize
+    ensures value { result ≡ length (response_text text.now more) }
+    ensures response_after { response.new ≡ over (response_text text.now more) response.old }
 {
     let mut verdicts = [0u8; VERDICTS];
     match judged(text, more, &mut verdicts) {

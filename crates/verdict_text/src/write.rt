@@ -1,5 +1,5 @@
 // The lines that are printed: a line a pair, then one line for the store; or the line of a refusal.
-ghost use Rattle.std.specs.Prelude.{◌≡◌, ◌++◌, ◌+◌, ◌*◌, ◌/◌, ◌≤◌, ◌<◌, length, take};
+ghost use Rattle.std.specs.Prelude.{◌≡◌, ◌++◌, ◌+◌, ◌*◌, ◌/◌, ◌≤◌, ◌<◌, length, take, drop};
 ghost use Rattle.judge.specs.Frames.{verdict_width};
 ghost use Rattle.verdict_text.specs.Write.{line, verdict_line, last_line, refusal_line, judgement_bytes, judgement_text};
 
@@ -20,6 +20,7 @@ fn write_line(output: &mut [u8], at: usize, bytes: &[u8]) -> usize
     requires { at + (2 * length bytes.now + 1) ≤ length output.old }
     ensures end { result ≡ at + (2 * length bytes.now + 1) }
     ensures written { take result output.new ≡ take at output.old ++ line bytes.now }
+    ensures rest { drop result output.new ≡ drop result output.old }
 {
     let end = at + 2 * bytes.len();
     let Ok(()) = hex::encode_to_slice(bytes, &mut output[at..end]) else {
@@ -52,6 +53,7 @@ pub(crate) fn write_judgement(output: &mut [u8], verdicts: &[u8], j: Judgement) 
     requires { length verdicts.now / verdict_width * verdict_line + last_line ≤ length output.old }
     ensures bound { result ≤ length output.new }
     ensures bytes { take result output.new ≡ judgement_text verdicts.now j }
+    ensures rest { drop result output.new ≡ drop result output.old }
 {
     let (verdicts, _) = verdicts.as_chunks::<VERDICT>();
     let mut end = 0;
@@ -66,6 +68,7 @@ pub(crate) fn write_refusal(output: &mut [u8], number: u8) -> usize
     requires { 4 ≤ length output.old }
     ensures bound { result ≤ length output.new }
     ensures bytes { take result output.new ≡ refusal_line number }
+    ensures rest { drop result output.new ≡ drop result output.old }
 {
     let text = [b'R', b'0' + number / 10, b'0' + number % 10, b'\n'];
     output[..4].copy_from_slice(&text);

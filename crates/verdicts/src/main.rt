@@ -2,9 +2,11 @@
 #![tactic(auto)]
 
 use std::process::ExitCode;
+use verdict_text::answer::answer;
+use verdict_text::stream::{Reader, Writer};
 
 fn main(rt: HostRuntime) -> ExitCode {
-    match verdict_text::answer::answer(&mut rt.stdin(), &mut rt.stdout()) {
+    match answer(&mut Reader::new(rt.stdin()), &mut Writer::new(rt.stdout())) {
         Ok(()) => ExitCode::SUCCESS,
         Err(error) => {
             // Where standard error fails too, the status tells it.

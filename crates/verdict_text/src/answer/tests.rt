@@ -1,5 +1,7 @@
 // What a run leaves where a read or a write fails, or stops short. The store and its answer are those of the program's own files.
 use super::*;
+use crate::stream::{Reader, Writer};
+use std::io::{Cursor, Read, Write};
 
 const MARK: &[u8] = b"00\n";
 
@@ -87,9 +89,9 @@ fn answers_a_text_in_pieces(rt: HostRuntime) {
         Step::Gives(FIRST),
         Step::Gives(SECOND),
     ];
-    let mut output = Vec::new(rt.alloc());
-    assert!(rt; answer(&mut Steps(&steps), &mut output).is_ok());
-    assert_eq!(rt; output.as_slice(), ANSWER);
+    let mut sink = Writer::new(Vec::new(rt.alloc()));
+    assert!(rt; answer(&mut Reader::new(Steps(&steps)), &mut sink).is_ok());
+    assert_eq!(rt; sink.writer.as_slice(), ANSWER);
 }
 
 // Without the third line the text is a good store too.
@@ -101,10 +103,10 @@ fn judges_nothing_where_a_read_fails(rt: HostRuntime) {
         Step::Fails(ErrorKind::ConnectionReset),
         Step::Gives(SECOND),
     ];
-    let mut output = Vec::new(rt.alloc());
-    let result = answer(&mut Steps(&steps), &mut output);
+    let mut sink = Writer::new(Vec::new(rt.alloc()));
+    let result = answer(&mut Reader::new(Steps(&steps)), &mut sink);
     assert_eq!(rt; read_failure(result), Some(ErrorKind::ConnectionReset));
-    assert_eq!(rt; output.len(), 0);
+    assert_eq!(rt; sink.writer.len(), 0);
 }
 
 // The read that asks whether the text goes on.
@@ -112,35 +114,38 @@ fn judges_nothing_where_a_read_fails(rt: HostRuntime) {
 fn asks_behind_a_full_buffer(rt: HostRuntime) {
     let text = [0u8; 65536];
     let fails = [Step::Fails(ErrorKind::ConnectionReset)];
-    let mut output = Vec::new(rt.alloc());
-    let result = answer(&mut text.as_slice().chain(Steps(&fails)), &mut output);
+    let mut sink = Writer::new(Vec::new(rt.alloc()));
+    let mut source = Reader::new(text.as_slice().chain(Steps(&fails)));
+    let result = answer(&mut source, &mut sink);
     assert_eq!(rt; read_failure(result), Some(ErrorKind::ConnectionReset));
-    assert_eq!(rt; output.len(), 0);
+    assert_eq!(rt; sink.writer.len(), 0);
     let more = [Step::Gives(b"0"), Step::Fails(ErrorKind::ConnectionReset)];
-    assert!(rt; answer(&mut text.as_slice().chain(Steps(&more)), &mut output).is_ok());
-    assert_eq!(rt; output.as_slice(), b"R11\n".as_slice());
+    let mut source = Reader::new(text.as_slice().chain(Steps(&more)));
+    assert!(rt; answer(&mut source, &mut sink).is_ok());
+    assert_eq!(rt; sink.writer.as_slice(), b"R11\n".as_slice());
 }
 
 #[test]
 fn tells_a_write_that_fails(rt: HostRuntime) {
-    let mut output = Room {
+    let mut sink = Writer::new(Room {
         taken: Vec::new(rt.alloc()),
         room: 3,
         interrupted: false,
-    };
-    let result = answer(&mut Steps(&[Step::Gives(MARK)]), &mut output);
+    });
+    let steps = [Step::Gives(MARK)];
+    let result = answer(&mut Reader::new(Steps(&steps)), &mut sink);
     assert_eq!(rt; write_failure(result), Some(ErrorKind::StorageFull));
-    assert_eq!(rt; output.taken.as_slice(), b"R08".as_slice());
-    output.room = 7;
-    assert!(rt; answer(&mut Steps(&[Step::Gives(MARK)]), &mut output).is_ok());
-    assert_eq!(rt; output.taken.as_slice(), b"R08R08\n".as_slice());
+    assert_eq!(rt; sink.writer.taken.as_slice(), b"R08".as_slice());
+    sink.writer.room = 7;
+    assert!(rt; answer(&mut Reader::new(Steps(&steps)), &mut sink).is_ok());
+    assert_eq!(rt; sink.writer.taken.as_slice(), b"R08R08\n".as_slice());
 }
 
 // A writer that takes nothing.
 #[test]
 fn tells_a_write_of_nothing(rt: HostRuntime) {
-    let mut room = [0u8; 3];
-    let result = answer(&mut Steps(&[Step::Gives(MARK)]), &mut room.as_mut_slice());
+    let mut sink = Writer::new(Cursor::new([0u8; 3]));
+    let result = answer(&mut Reader::new(Steps(&[Step::Gives(MARK)])), &mut sink);
     assert_eq!(rt; write_failure(result), Some(ErrorKind::WriteZero));
-    assert_eq!(rt; room.as_slice(), b"R08".as_slice());
+    assert_eq!(rt; sink.writer.get_ref().as_slice(), b"R08".as_slice());
 }
