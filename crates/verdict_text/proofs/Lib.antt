@@ -1,5 +1,5 @@
 pub mod ReadLaws
 pub mod JudgedLaws
 pub mod StepLaws
-pub mod TextExamples
 pub mod WriteLaws
+pub mod RulesLaws

@@ -3,4 +3,4 @@ pub mod Write
 pub mod Calls
 pub mod Answer
 pub mod Steps
-pub mod Examples
+pub mod Rules

@@ -8,7 +8,6 @@ ghost use Rattle.verdict_text.specs.Write.{verdict_line, last_line, over};
 ghost use Rattle.verdict_text.specs.Calls.{Failed, WriteFailed};
 ghost use Rattle.verdict_text.specs.Answer.{refusal_number, is_long, judged, response_text, Left, Written, Reported, LosesFewer, AppendsFront};
 ghost use Rattle.verdict_text.specs.Steps.{Fills, Reads};
-ghost use Rattle.verdict_text.specs.Examples.{TextExamples};
 
 use crate::read::{FRAMES, read_store};
 use crate::stream::{Sink, Source, is_interruption};
@@ -227,12 +226,6 @@ fn is_long(held: usize, more: bool) -> bool
 {
     more || LONGEST < held
 }
-
-// Does nothing: its contract is the examples.
-#[tactic(auto, using(crate::proofs::TextExamples::text_examples))]
-pub fn examples()
-    ensures { TextExamples }
-{}
 
 #[cfg(test)]
 mod tests;

@@ -2,6 +2,7 @@
 #![tactic(auto)]
 
 pub mod answer;
+pub mod laws;
 pub mod read;
 pub mod stream;
 mod write;
