@@ -1,5 +1,5 @@
 -- The laws of specs/Laws.antt on the marks, the cut in ascending order, the frames and the read-back.
-use Rattle.std.proofs.Common.{◌≡◌, refl, sym, ap, ap₂, subst, ◌∙◌, Bool, true, false, cond, ◌==◌, List, [], ◌∷◌, ◌++◌, append_assoc, ℕ, ◌+◌, length, map, take, drop, Bor, Option, Some, None, Result, Ok, Err, get_or, get_or-take, get_or-drop, lit<, add-zero}
+use Rattle.std.proofs.Common.{◌≡◌, refl, sym, ap, ap₂, subst, ◌∙◌, Bool, true, false, cond, ◌==◌, List, [], ◌∷◌, ◌++◌, append_assoc, ℕ, suc, ◌+◌, length, map, take, drop, Bor, Option, Some, None, Result, Ok, Err, get_or, get_or-take, get_or-drop, lit<, add-zero}
 use Rattle.std.specs.Int.{w8}
 use Rattle.codec.specs.Bytes.{le}
 use Rattle.codec.specs.Place.{Part}
@@ -26,7 +26,7 @@ use Rattle.meta.specs.declared.meta2.VolumeMeta2.{VolumeMeta2}
 use Rattle.meta.proofs.VolumeLaws.{volume_decoded}
 use Rattle.cut.specs.Store.{Every, mark_by, clean_mark, store_mark, Slot, Pair, slot_at, status, report, shown, frames, Beside, SoundPair, IsPage, IsRow}
 use Rattle.cut.specs.Cut.{Tear, Ascending, Write, store, size, old, new, cut, torn, left, next_number, CutPoint, CorrectWrite, Accident, payload_by, SectorAccident, is_empty, handed, PayloadIs}
-use Rattle.cut.specs.Laws.{AnySlot, AnyFirst, AnyBoth, AnyPage, AnyRow, AnyWritten, AnyCorrect, of_operator, SoundUnderAny, UnmarkedRecord, UnmarkedStore, UnmarkedAsked, PageHanded, TornHanded, WholeHanded, OldHeaderKept, NoneInOrder, zeros, PairFrame, OnePayload, HasSlots}
+use Rattle.cut.specs.Laws.{AnyRest, AnyTyped, AnySlot, AnyFirst, AnyBoth, AnyPage, EveryPair, AnyPairs, AnyRow, AnyWritten, AnyCorrect, AnyCorrectWrite, AnyPoint, of_operator, SoundUnderAny, UnmarkedRecord, UnmarkedStore, UnmarkedAsked, PageHanded, TornHanded, WholeHanded, OldHeaderKept, NoneInOrder, zeros, PairFrame, OnePayload, HasSlots}
 use Rattle.cut.proofs.StatusLaws.{false_true}
 use Rattle.cut.proofs.PairLaws.{last_is}
 use Rattle.cut.proofs.CutLaws.{kept_by_header}
@@ -211,6 +211,13 @@ handed_back p a b part expect_a expect_b slots handed a' b' part' a_is b_is hand
 
 -- ---- what a sound store and a correct write ask for
 
+pub any_rest : AnyRest
+any_rest v generation number own prev owner = record { generation = generation; number = number; own = own; prev = prev; owner = owner }
+
+pub any_typed : AnyTyped
+any_typed s bytes volume volume_bytes object offset rest =
+    record { bytes = bytes; volume = volume; volume_bytes = volume_bytes; object = object; offset = offset; rest = rest }
+
 pub any_slot : AnySlot
 any_slot s bytes volume volume_bytes object offset rest format numbered =
     record {
@@ -244,6 +251,13 @@ any_both p newer i j slots valid beside_valid generation number link accepted be
 pub any_page : AnyPage
 any_page p index most decoder = record { index = index; most = most; decoder = decoder }
 
+every_pair : (P : Pair → Type 0) → EveryPair P
+every_pair P [] each = Every.none
+every_pair P (p ∷ ps) each = Every.more (each 0 p refl) (every_pair P ps (λ i q at. each (suc i) q at))
+
+pub any_pairs : AnyPairs
+any_pairs = (every_pair IsPage, every_pair SoundPair)
+
 pub any_row : AnyRow
 any_row p ps volume pages range sound =
     let is_row : IsRow (p ∷ ps) = IsRow.row volume pages range in (is_row, record { row = is_row; pairs = sound })
@@ -272,3 +286,11 @@ any_written generation prev number w format volume object offset index log2 gene
 
 pub any_correct : AnyCorrect
 any_correct n w winner won written = record { winner = winner; won = won; written = written }
+
+pub any_correct_write : AnyCorrectWrite
+any_correct_write w correct = correct
+
+-- ---- where it may be cut
+
+pub any_point : AnyPoint
+any_point k size point = point

@@ -1,6 +1,6 @@
 -- Laws on the words of the cut theorem (docs/FORMAT.md, "The sound store and the cut"). It would also hold of a store that always has the
 -- mark, of a decoder that accepts anything or of a frame that holds less; these laws would not. Each is the contract of a function.
-use Rattle.std.specs.Prelude.{◌≡◌, Bool, true, false, if◌then◌else◌, List, [], ◌∷◌, ◌++◌, ℕ, ◌+◌, ◌*◌, ◌^◌, ◌≤◌, ◌<◌, length, map, get_or, take, drop, Some, Ok, Err}
+use Rattle.std.specs.Prelude.{◌≡◌, ◌⊎◌, Bool, true, false, if◌then◌else◌, List, [], ◌∷◌, ◌++◌, ℕ, ◌+◌, ◌*◌, ◌^◌, ◌≤◌, ◌<◌, length, map, slice_get, get_or, take, drop, Some, Ok, Err}
 use Rattle.codec.specs.Bytes.{AllBytes, le16, le32}
 use Rattle.codec.specs.Crc32c.{crc32c}
 use Rattle.slot.specs.Status.{other}
@@ -12,6 +12,7 @@ use Rattle.slot.specs.declared.slot.SlotInfo.{SlotInfo}
 use Rattle.slot.specs.declared.slot.SlotStatus.{SlotStatus}
 use Rattle.slot.specs.declared.slot.Expect.{Expect}
 use Rattle.pair.specs.Pair.{winner_info}
+use Rattle.judge.specs.Numbers.{numbers, highest}
 use Rattle.judge.specs.Operators.{operators_in_range}
 use Rattle.judge.specs.Judge.{most_pairs}
 use Rattle.judge.specs.Frames.{verdict_width}
@@ -21,7 +22,7 @@ use Rattle.judge.specs.declared.pairs.Version.{Version}
 use Rattle.meta.specs.Volume.{decode_volume}
 use Rattle.meta.specs.Page.{decode_page}
 use Rattle.meta.specs.declared.meta.MetaError.{MetaError}
-use Rattle.cut.specs.Store.{Every, Volume, Page, accepts, clean_mark, Slot, Pair, slot_at, status, report, shown, frames, store_mark, SoundSlot, SoundPair, IsPage, IsRow, Sound}
+use Rattle.cut.specs.Store.{Every, Volume, Page, accepts, clean_mark, Slot, Pair, slot_at, status, report, shown, frames, store_mark, Typed, SoundSlot, SoundPair, IsPage, IsRow, Sound}
 use Rattle.cut.specs.Cut.{Ascending, Sectors, Write, store, size, expect, old, new, torn, left, CutPoint, Possible, Anywhere, Written, CorrectWith, CorrectWrite, whole, header_passes, payload_in, Accident, payload_by, SectorAccident, handed, VolumeIfMarked, PayloadIs, Survives}
 
 -- ---- the decoders
@@ -36,7 +37,19 @@ PageRefused = (index most : ℕ) (r : List ℕ) (error : MetaError) → decode_p
 
 -- ---- what a sound store asks for
 
--- Nothing else is asked of a slot,
+-- Nothing else is asked of the fields of a frame that are not given,
+abbrev pub AnyRest : Type 0
+AnyRest =
+    (v : Version) → v.generation < 2 ^ 64 → v.meta_seq < 2 ^ 64 → v.header_crc32c < 2 ^ 32 → v.prev_header_crc32c < 2 ^ 32
+    → v.owner_generation < 2 ^ 64 → VersionFits v
+
+-- of what the types say of a slot,
+abbrev pub AnyTyped : Type 0
+AnyTyped =
+    (s : Slot) → AllBytes s.bytes → length s.expect.volume_uuid ≡ 16 → AllBytes s.expect.volume_uuid → s.expect.object_id < 2 ^ 64
+    → s.expect.slot_offset < 2 ^ 64 → VersionFits s.rest → Typed s
+
+-- of a slot,
 abbrev pub AnySlot : Type 0
 AnySlot =
     (s : Slot) → AllBytes s.bytes → length s.expect.volume_uuid ≡ 16 → AllBytes s.expect.volume_uuid → s.expect.object_id < 2 ^ 64
@@ -61,6 +74,13 @@ AnyBoth =
 abbrev pub AnyPage : Type 0
 AnyPage = (p : Pair) (index most : ℕ) → p.decoder ≡ Page index most → IsPage p
 
+-- of all pairs, that they are pages or sound: each is, however many they are,
+abbrev pub EveryPair : (Pair → Type 0) → Type 0
+EveryPair P = (ps : List Pair) → ((i : ℕ) (p : Pair) → slice_get ps i ≡ Some p → P p) → Every P ps
+
+abbrev pub AnyPairs : Type 0
+AnyPairs = EveryPair IsPage × EveryPair SoundPair
+
 -- and of the row, however long it is.
 abbrev pub AnyRow : Type 0
 AnyRow =
@@ -81,6 +101,24 @@ abbrev pub AnyCorrect : Type 0
 AnyCorrect =
     (n : ℕ) (w : Write) (winner : SlotInfo) → winner_info (report w.pair) ≡ Some (other w.index, winner)
     → Written (winner.generation + 1) winner.header_crc32c n w → CorrectWith n w
+
+-- Its number is one above the highest of all numbered slots of its pair's operator.
+abbrev pub AnyCorrectWrite : Type 0
+AnyCorrectWrite = (w : Write) → CorrectWith (highest (numbers w.pair.operator (shown (w.before ++ w.pair ∷ w.behind))) + 1) w → CorrectWrite w
+
+-- Nor is anything else asked of the store, of the write and of the cut: of up to 112 pairs, where the mark is not set or pair 0 is written,
+-- after no byte or after 8 or more, or with any of the sectors.
+pub record AnyCutSurvived : Type 0 where
+  pub ascending : (w : Write) (k : ℕ) → Sound (w.before ++ w.pair ∷ w.behind) → length (w.before ++ w.pair ∷ w.behind) ≤ 112
+      → (store_mark (w.before ++ w.pair ∷ w.behind) ≡ false) ⊎ (w.before ≡ []) → CorrectWrite w
+      → w.tear ≡ Ascending k → (k ≡ 0) ⊎ ((8 ≤ k) × (k ≤ 2 ^ w.fields.log2_slot_size))
+      → (Accident (left w) (old w) (new w) w.payload → ⊥)
+      → (out : List ℕ) → length out ≡ length (w.before ++ w.pair ∷ w.behind) * 4 → Survives w out
+  pub sectors : (w : Write) (reached : ℕ → Bool) → Sound (w.before ++ w.pair ∷ w.behind) → length (w.before ++ w.pair ∷ w.behind) ≤ 112
+      → (store_mark (w.before ++ w.pair ∷ w.behind) ≡ false) ⊎ (w.before ≡ []) → CorrectWrite w
+      → w.tear ≡ Sectors reached
+      → (SectorAccident (left w) (old w) (new w) w.payload → ⊥)
+      → (out : List ℕ) → length out ≡ length (w.before ++ w.pair ∷ w.behind) * 4 → Survives w out
 
 -- ---- the operators
 
@@ -109,6 +147,10 @@ EachSector =
 -- and any set of them may have reached the slot.
 abbrev pub AnySectors : Type 0
 AnySectors = (reached : ℕ → Bool) (size : ℕ) → Possible (Sectors reached) size
+
+-- In ascending order the cut is after no byte, or after 8 or more of the slot's.
+abbrev pub AnyPoint : Type 0
+AnyPoint = (k size : ℕ) → (k ≡ 0) ⊎ ((8 ≤ k) × (k ≤ size)) → Possible (Ascending k) size
 
 -- ---- the cut anywhere
 

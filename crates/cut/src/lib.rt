@@ -5,10 +5,11 @@
 ghost use Rattle.std.specs.Prelude.{◌≡◌, List, ℕ};
 ghost use Rattle.pair.specs.Winner.{read_pair};
 ghost use Rattle.judge.specs.Same.{NothingGiven, ChecksumGiven, NumbersGiven};
-ghost use Rattle.cut.specs.Store.{Pair};
+ghost use Rattle.cut.specs.Store.{Slot, Pair, Typed};
 ghost use Rattle.cut.specs.Cut.{CutTheorem, PayloadIs};
-ghost use Rattle.cut.specs.Laws.{VolumeRefused, PageRefused, AnySlot, AnyFirst, AnyBoth, AnyPage, AnyRow, AnyWritten, AnyCorrect, SoundUnderAny, Encoded, EachSector, AnySectors, AnywhereInOrder, AnywhereBySectors, UnmarkedRecord, UnmarkedStore, UnmarkedAsked, VolumeAsked, PageHanded, TornHanded, WholeHanded, FailedSum, FailedPayload, OlderAtMost, OlderSurvived, OldHeaderKept, NoneInOrder, PairFrame, OnePayload, HasSlots};
+ghost use Rattle.cut.specs.Laws.{VolumeRefused, PageRefused, AnyRest, AnyTyped, AnySlot, AnyFirst, AnyBoth, AnyPage, AnyPairs, AnyRow, AnyWritten, AnyCorrect, AnyCorrectWrite, AnyCutSurvived, AnyPoint, SoundUnderAny, Encoded, EachSector, AnySectors, AnywhereInOrder, AnywhereBySectors, UnmarkedRecord, UnmarkedStore, UnmarkedAsked, VolumeAsked, PageHanded, TornHanded, WholeHanded, FailedSum, FailedPayload, OlderAtMost, OlderSurvived, OldHeaderKept, NoneInOrder, PairFrame, OnePayload, HasSlots};
 
+use judge::pairs::Version;
 use pair::pair::PairReport;
 use slot::slot::Expect;
 
@@ -24,14 +25,34 @@ pub fn refused_records()
 
 // What a sound store and a correct write ask for, and no more.
 pub fn asked_store()
+    ensures rest { AnyRest }
+    ensures typed { AnyTyped }
     ensures slot { AnySlot }
     ensures first { AnyFirst }
     ensures both { AnyBoth }
     ensures page { AnyPage }
+    ensures pairs { AnyPairs }
     ensures row { AnyRow }
     ensures written { AnyWritten }
     ensures correct { AnyCorrect }
+    ensures correct_write { AnyCorrectWrite }
 {}
+
+// The theorem over what it asks for, written out.
+#[tactic(auto, using(crate::proofs::StatementLaws::any_point, crate::proofs::Theorem::any_cut_survived))]
+pub fn asked_cut()
+    ensures point { AnyPoint }
+    ensures survived { AnyCutSurvived }
+{}
+
+// What the types say of a slot is what the types of the code hold: whatever bytes are lent, whatever identity and size they are read with, and
+// whatever numbers a host left in the other fields of a frame, which are handed back.
+pub fn typed_slot(bytes: &[u8], expect: Expect, rest: Version) -> Version
+    ensures typed { Typed (record { bytes = bytes.now; expect = expect; rest = result }) }
+    ensures kept { result ≡ rest }
+{
+    rest
+}
 
 // A store whose numbers were counted for all its pairs together needs no change.
 pub fn counted_before()
