@@ -135,6 +135,27 @@ BothKindsSurvived =
     → length verdicts ≡ length (before ++ p ∷ behind) * verdict_width
     → SurvivesBoth (write_of before p behind plan owner compat payload buffer) written verdicts
 
+-- The same over all that it asks for, written out: `next_write` over the frames of a sound store answered a plan for the pair, whose slots it was
+-- told to read as they are read; the mark is not set, or the pair is pair 0; fields within their types, and an acceptable payload.
+pub record NextWriteSurvived : Type 0 where
+  -- The cut is after no byte, or after 8 or more of the slot's.
+  pub ascending : (before : List Pair) (p : Pair) (behind : List Pair) (owner compat : ℕ) (payload buffer written : List ℕ) (plan : Plan) (crc k : ℕ) (verdicts : List ℕ)
+      → Sound (before ++ p ∷ behind) → (store_mark (before ++ p ∷ behind) ≡ false) ⊎ (before ≡ [])
+      → owner < 2 ^ 64 → compat < 2 ^ 32 → AllBytes payload → accepts p.decoder payload ≡ true
+      → next_write (frames (before ++ p ∷ behind)) (length before) p.a.expect p.b.expect owner compat payload buffer ≡ (written, Ok (Some (plan, crc)))
+      → (k ≡ 0) ⊎ ((8 ≤ k) × (k ≤ 2 ^ (slot_at plan.index p).expect.log2_slot_size))
+      → (Accident (left (write_of before p behind plan owner compat payload buffer (Ascending k))) (slot_at plan.index p).bytes written payload → ⊥)
+      → length verdicts ≡ length (before ++ p ∷ behind) * 4
+      → Survives (write_of before p behind plan owner compat payload buffer (Ascending k)) verdicts
+  -- It is with any of the sectors.
+  pub sectors : (before : List Pair) (p : Pair) (behind : List Pair) (owner compat : ℕ) (payload buffer written : List ℕ) (plan : Plan) (crc : ℕ) (reached : ℕ → Bool) (verdicts : List ℕ)
+      → Sound (before ++ p ∷ behind) → (store_mark (before ++ p ∷ behind) ≡ false) ⊎ (before ≡ [])
+      → owner < 2 ^ 64 → compat < 2 ^ 32 → AllBytes payload → accepts p.decoder payload ≡ true
+      → next_write (frames (before ++ p ∷ behind)) (length before) p.a.expect p.b.expect owner compat payload buffer ≡ (written, Ok (Some (plan, crc)))
+      → (SectorAccident (left (write_of before p behind plan owner compat payload buffer (Sectors reached))) (slot_at plan.index p).bytes written payload → ⊥)
+      → length verdicts ≡ length (before ++ p ∷ behind) * 4
+      → Survives (write_of before p behind plan owner compat payload buffer (Sectors reached)) verdicts
+
 -- The store after a write that was not cut.
 abbrev pub finished_pair : Write → Pair
 finished_pair w = with_slot w.index (new w) w.pair

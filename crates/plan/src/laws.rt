@@ -3,7 +3,7 @@ ghost use Rattle.plan.specs.Numbers.{WinnersOfVerdicts, WinnersOfOne};
 ghost use Rattle.plan.specs.Plan.{NotTheWinner};
 ghost use Rattle.plan.specs.Heal.{HealsTheNamed};
 ghost use Rattle.plan.specs.Rules.{PlanRows, NumberRows, HealRows, WriteRows, ErrorRows};
-ghost use Rattle.plan.specs.Promise.{AnyGiven, AnyPlannedFor, MoreRefused, PlannedIsCorrect, BothKindsSurvived, FinishedIsSound};
+ghost use Rattle.plan.specs.Promise.{AnyGiven, AnyPlannedFor, MoreRefused, PlannedIsCorrect, BothKindsSurvived, NextWriteSurvived, FinishedIsSound};
 
 // Does nothing: its contract is that the winners whose numbers `heal_number` goes by are those of the judge's verdicts, and all of them
 // where all pairs are one operator's.
@@ -38,6 +38,12 @@ pub fn correct_law()
 // Does nothing: its contract is that what `next_write` promises of cuts is of those in ascending order and of those by sectors.
 pub fn cuts_law()
     ensures { BothKindsSurvived }
+{}
+
+// Does nothing: its contract is what `next_write` promises of cuts, over all that it asks for, written out.
+#[tactic(auto, using(crate::proofs::CorrectLaws::next_write_survived))]
+pub fn next_write_law()
+    ensures { NextWriteSurvived }
 {}
 
 // Does nothing: its contract is that no more is asked of what is given with a plan, and of the store.
