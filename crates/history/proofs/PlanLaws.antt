@@ -33,8 +33,8 @@ use Rattle.plan.proofs.HealLaws.{planned}
 use Rattle.plan.proofs.ReportLaws.{held_report, winner_held, followed_held}
 use Rattle.plan.proofs.FrameLaws.{frame_reports, frame_at, fits_at}
 use Rattle.plan.proofs.CorrectLaws.{all_typed, given_correct, planned_is_correct}
-use Rattle.history.specs.History.{Tracked, pairs, read_mark, named, heal_number as heal_number_of, Turn, Allowed, Put, write_to}
-use Rattle.history.specs.Laws.{NumbersAnswered, NumbersMeet, NumbersOfHistory, plan_of, AllowedIsPlanned, FreePlanIsAllowed, HealPlanIsAllowed}
+use Rattle.history.specs.History.{Tracked, HarmfulAccident, Reached, pairs, read_mark, named, heal_number as heal_number_of, Turn, Allowed, Put, write_to}
+use Rattle.history.specs.Laws.{NumbersAnswered, NumbersReached, NumbersMeet, NumbersOfHistory, plan_of, AllowedIsPlanned, FreePlanIsAllowed, HealPlanIsAllowed}
 use Rattle.history.proofs.RowLaws.{rested_highest, others_are}
 use Rattle.history.proofs.States.{Rests, rested, all_rested, pairs_row, length_pairs, State, flies_stand, flies_number, flown_named, all_named, none_named, one_named}
 use Rattle.history.proofs.Theorem.{reached_state, reached_few, reached_range}
@@ -132,6 +132,27 @@ state_numbered : {ts : List Tracked} → State ts → Every NumberedPair (pairs 
 state_numbered (State.all_rest some all) = rests_numbered all
 state_numbered (State.one_flies before t behind split rest_before fly rest_behind unset) =
     subst (λ (us : List Tracked). Every NumberedPair (pairs us)) (sym split) (row_numbered t rest_before fly.led.leads.slots rest_behind)
+
+state_some : {ts : List Tracked} → State ts → 1 ≤ length (pairs ts)
+state_some {ts} (State.all_rest some all) = let same = length_pairs ts in omega arith
+state_some {ts} (State.one_flies before t behind split rest_before fly rest_behind unset) =
+    let all = ap length (ap pairs split ∙ pairs_row before t behind) in
+    let parts = length-append (pairs before) (t.pair ∷ pairs behind) in
+    omega arith
+
+reached_pairs : {ts : List Tracked} → Reached HarmfulAccident ts → length (pairs ts) ≤ most_pairs
+reached_pairs {ts} reached = subst (λ (n : ℕ). n ≤ most_pairs) (sym (length_pairs ts)) (reached_few reached)
+
+pub numbers_reached : NumbersReached
+numbers_reached =
+    record {
+      next = λ ts reached o.
+          let state = reached_state reached in
+          numbers_answered.next (pairs ts) o (state_some state) (reached_pairs reached) (reached_range reached) (state_numbered state);
+      heal = λ ts reached o.
+          let state = reached_state reached in
+          numbers_answered.heal (pairs ts) o (state_some state) (reached_pairs reached) (reached_range reached) (state_numbered state);
+    }
 
 -- ---- the frame of a pair of the store
 

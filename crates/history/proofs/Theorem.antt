@@ -1,7 +1,9 @@
 -- The theorem over histories: each step leads from a state to the next; and where no write sets the volume record's mark, it stays false.
-use Rattle.std.proofs.Common.{◌≡◌, refl, sym, ap, subst, ◌∙◌, Bool, true, false, List, [], ◌∷◌, ◌++◌, ℕ, zero, suc, ◌≤◌, arith, length, map, Option, Some}
+use Rattle.std.proofs.Common.{◌≡◌, refl, sym, ap, subst, ◌∙◌, ◌⊎◌, inl, inr, Bool, true, false, List, [], ◌∷◌, ◌++◌, ℕ, zero, suc, ◌*◌, ◌≤◌, arith, length, take, map, Option, Some}
 use Rattle.std.specs.List.{IsAmong}
 use Rattle.std.proofs.lemmas.List.{length-map}
+use Rattle.codec.specs.Bytes.{le32}
+use Rattle.codec.specs.Crc32c.{crc32c}
 use Rattle.slot.specs.Payload.{payload as payload_of}
 use Rattle.slot.specs.Write.{header_crc}
 use Rattle.slot.specs.declared.slot.SlotIndex.{SlotIndex}
@@ -9,8 +11,9 @@ use Rattle.slot.specs.declared.slot.SlotInfo.{SlotInfo}
 use Rattle.pair.specs.Pair.{winner_info}
 use Rattle.judge.specs.Operators.{operators_in_range}
 use Rattle.judge.specs.Judge.{most_pairs, judgement}
+use Rattle.judge.specs.Frames.{verdict_width}
 use Rattle.cut.specs.Store.{Every, Pair, clean_mark, slot_at, report, shown, store_mark, SoundPair, IsRow}
-use Rattle.cut.specs.Cut.{Tear, Write, size, new, left, Possible, is_empty}
+use Rattle.cut.specs.Cut.{Tear, Write, size, old, new, left, Possible, is_empty}
 use Rattle.cut.proofs.EveryLaws.{same_length}
 use Rattle.cut.proofs.StatusLaws.{false_true}
 use Rattle.cut.proofs.StatementLaws.{one_payload}
@@ -18,8 +21,8 @@ use Rattle.cut.proofs.PairLaws.{last_is}
 use Rattle.cut.proofs.StateLaws.{sound_won}
 use Rattle.cut.proofs.Theorem.{row_range}
 use Rattle.cut.proofs.RowLaws.{range_kept, rested_stands}
-use Rattle.history.specs.History.{Past, Tracked, past, past_after, pairs, started, record_in, read_mark, Turn, HistoryAccident, HarmfulAccident, write_to, finished, torn_by, Reached, Promised, HistoryTheorem}
-use Rattle.history.specs.Laws.{AnyStoreBegins, AnyWriteAllowed, AnyVolumeWriteAllowed, AnyHealAllowed, AnyCutGoesOn, KnownRecords, ReadIsKnown, Unmarked, TheoremWithoutMark, UnmarkedBegins, UnmarkedFinish, UnmarkedCut, StartMark, FinishedMark, AsWritten, LinkAtMost, OnlyTheWritten, HarmfulAlone, HarmfulIsAccident}
+use Rattle.history.specs.History.{Past, Tracked, past, past_after, pairs, standing, started, record_in, read_mark, Turn, HistoryAccident, HarmfulAccident, write_to, finished, torn_by, Reached, Promised, HistoryTheorem}
+use Rattle.history.specs.Laws.{AnyStoreBegins, AnyWriteAllowed, AnyVolumeWriteAllowed, AnyHealAllowed, AnyCutGoesOn, KnownRecords, ReadIsKnown, Unmarked, TheoremWithoutMark, UnmarkedBegins, UnmarkedFinish, UnmarkedCut, StartMark, FinishedMark, AsWritten, LinkAtMost, FailedPayload, EachStepPromised, OnlyTheWritten, HarmfulAlone, HarmfulIsAccident}
 use Rattle.history.proofs.States.{Led, Rests, rested, State, pairs_row, flies_stand, all_named, none_named, mark_counted, promised}
 use Rattle.history.proofs.Steps.{start_all, tracked_operator, tracked_known, under_whole, under_kept, finish_state, finish_named, cut_state, cut_named}
 
@@ -182,6 +185,27 @@ module _ (w : Write) (before : Past) where
 pub link_at_most : LinkAtMost
 link_at_most w before winner = link_at_most_of w before winner
 
+pub failed_payload : FailedPayload
+failed_payload = record { stated = stated; harmful = harmful }
+  where
+    stated : (w : Write) (before : Past) (winner : SlotInfo)
+        → (take 128 (left w) ≡ take 128 (old w)) ⊎ (take 128 (left w) ≡ take 128 (new w))
+        → (crc32c (standing (left w)) ≡ le32 (left w) 28 → ⊥)
+        → HistoryAccident w before winner → header_crc w.fields w.payload ≡ winner.prev_header_crc32c
+    stated w before winner (inl is) fails (HistoryAccident.header other) = absurd (other.not_old is)
+    stated w before winner (inr is) fails (HistoryAccident.header other) = absurd (other.not_new is)
+    stated w before winner either fails (HistoryAccident.payload other) = absurd (fails other.sum)
+    stated w before winner either fails (HistoryAccident.link is) = is
+
+    harmful : (w : Write) (before : Past) (winner : SlotInfo)
+        → (take 128 (left w) ≡ take 128 (old w)) ⊎ ((take 128 (left w) ≡ take 128 (new w)) ⊎ (take 128 (left w) ≡ take 128 before.valid))
+        → (crc32c (standing (left w)) ≡ le32 (left w) 28 → ⊥)
+        → HarmfulAccident w before winner → ⊥
+    harmful w before winner (inl is) fails (HarmfulAccident.header other not_valid) = other.not_old is
+    harmful w before winner (inr (inl is)) fails (HarmfulAccident.header other not_valid) = other.not_new is
+    harmful w before winner (inr (inr is)) fails (HarmfulAccident.header other not_valid) = not_valid is
+    harmful w before winner either fails (HarmfulAccident.payload other) = fails other.sum
+
 -- ---- the slot that is named
 
 pub only_the_written : OnlyTheWritten
@@ -256,4 +280,21 @@ any_cut_goes_on before t behind q so_far allowed =
       finished_write = Reached.finish before t behind so_far q allowed;
       torn_write = λ none k is point. Reached.cut before t behind so_far q allowed (subst (λ (tear : Tear). Possible tear (size (write_to before t behind q))) (sym is) point) none;
       torn_sectors = λ none reached is. Reached.cut before t behind so_far q allowed (subst (λ (tear : Tear). Possible tear (size (write_to before t behind q))) (sym is) tt) none;
+    }
+
+pub each_step_promised : EachStepPromised
+each_step_promised =
+    record {
+      start = λ ps sound few out room.
+          subst (λ (clean : Bool). Promised clean (map started ps) out) (start_mark ps sound)
+          (history_theorem (map started ps) (any_store_begins ps sound few) out (room ∙ ap (λ (n : ℕ). n * verdict_width) (sym (length-map ps started))));
+      finish = λ before t behind q so_far allowed out room.
+          history_theorem _ (any_cut_goes_on before t behind q so_far allowed).finished_write out
+          (room ∙ ap (λ (n : ℕ). n * verdict_width) (same_length before t (finished (write_to before t behind q) t) behind));
+      cut = λ before t behind q so_far allowed none k is point out room.
+          history_theorem _ ((any_cut_goes_on before t behind q so_far allowed).torn_write none k is point) out
+          (room ∙ ap (λ (n : ℕ). n * verdict_width) (same_length before t (torn_by (write_to before t behind q) t) behind));
+      cut_by_sectors = λ before t behind q so_far allowed none reached is out room.
+          history_theorem _ ((any_cut_goes_on before t behind q so_far allowed).torn_sectors none reached is) out
+          (room ∙ ap (λ (n : ℕ). n * verdict_width) (same_length before t (torn_by (write_to before t behind q) t) behind));
     }

@@ -1,8 +1,10 @@
 -- Laws on the words of the theorem over histories (docs/FORMAT.md, "The life of a store"): what it asks for, what is known, which mark is read,
 -- what is no accident and which of them it needs, which slot is named, which number a write has, and that the functions which plan a write plan
 -- those of a history. Each is the contract of a function.
-use Rattle.std.specs.Prelude.{◌≡◌, ◌⊎◌, Bool, true, false, Some, None, Ok, List, [], ◌∷◌, ◌++◌, ℕ, ◌*◌, ◌≤◌, length, take, map, slice_get}
+use Rattle.std.specs.Prelude.{◌≡◌, ◌⊎◌, Bool, true, false, Some, None, Ok, List, [], ◌∷◌, ◌++◌, ℕ, ◌*◌, ◌^◌, ◌≤◌, length, take, map, slice_get}
 use Rattle.std.specs.List.{IsAmong}
+use Rattle.codec.specs.Bytes.{le32}
+use Rattle.codec.specs.Crc32c.{crc32c}
 use Rattle.slot.specs.Write.{header_crc}
 use Rattle.slot.specs.declared.slot.SlotIndex.{SlotIndex}
 use Rattle.slot.specs.declared.slot.SlotInfo.{SlotInfo}
@@ -54,6 +56,27 @@ AnyCutGoesOn =
     (before : List Tracked) (t : Tracked) (behind : List Tracked) (q : Put) → Reached HistoryAccident (before ++ t ∷ behind)
     → (allowed : Allowed (write_to before t behind q))
     → GoesOn before t behind q allowed
+
+-- Then everything is promised: at the start, and after any write, finished or cut in either way.
+pub record EachStepPromised : Type 0 where
+  pub start : (ps : List Pair) → Sound ps → length ps ≤ 112 → (out : List ℕ) → length out ≡ length ps * 4
+      → Promised (store_mark ps) (map started ps) out
+  pub finish : (before : List Tracked) (t : Tracked) (behind : List Tracked) (q : Put) → Reached HistoryAccident (before ++ t ∷ behind)
+      → Allowed (write_to before t behind q)
+      → (out : List ℕ) → length out ≡ length (before ++ t ∷ behind) * 4
+      → Promised (read_mark (pairs (before ++ finished (write_to before t behind q) t ∷ behind))) (before ++ finished (write_to before t behind q) t ∷ behind) out
+  pub cut : (before : List Tracked) (t : Tracked) (behind : List Tracked) (q : Put) → Reached HistoryAccident (before ++ t ∷ behind)
+      → (allowed : Allowed (write_to before t behind q))
+      → (HistoryAccident (write_to before t behind q) (past q.index t) allowed.correct.winner → ⊥)
+      → (k : ℕ) → q.tear ≡ Ascending k → (k ≡ 0) ⊎ ((8 ≤ k) × (k ≤ 2 ^ q.fields.log2_slot_size))
+      → (out : List ℕ) → length out ≡ length (before ++ t ∷ behind) * 4
+      → Promised (read_mark (pairs (before ++ torn_by (write_to before t behind q) t ∷ behind))) (before ++ torn_by (write_to before t behind q) t ∷ behind) out
+  pub cut_by_sectors : (before : List Tracked) (t : Tracked) (behind : List Tracked) (q : Put) → Reached HistoryAccident (before ++ t ∷ behind)
+      → (allowed : Allowed (write_to before t behind q))
+      → (HistoryAccident (write_to before t behind q) (past q.index t) allowed.correct.winner → ⊥)
+      → (reached : ℕ → Bool) → q.tear ≡ Sectors reached
+      → (out : List ℕ) → length out ≡ length (before ++ t ∷ behind) * 4
+      → Promised (read_mark (pairs (before ++ torn_by (write_to before t behind q) t ∷ behind))) (before ++ torn_by (write_to before t behind q) t ∷ behind) out
 
 -- ---- what is known
 
@@ -150,6 +173,18 @@ LinkAtMost =
     (w : Write) (before : Past) (winner : SlotInfo) → AsWritten w before → HistoryAccident w before winner
     → header_crc w.fields w.payload ≡ winner.prev_header_crc32c
 
+-- Nor is there one where the header that was left is the one before, the new one or, of those that do harm, the one of the last Valid version,
+-- and the checksum of the payload under it is not the one that it stores.
+pub record FailedPayload : Type 0 where
+  pub stated : (w : Write) (before : Past) (winner : SlotInfo)
+      → (take 128 (left w) ≡ take 128 (old w)) ⊎ (take 128 (left w) ≡ take 128 (new w))
+      → (crc32c (standing (left w)) ≡ le32 (left w) 28 → ⊥)
+      → HistoryAccident w before winner → header_crc w.fields w.payload ≡ winner.prev_header_crc32c
+  pub harmful : (w : Write) (before : Past) (winner : SlotInfo)
+      → (take 128 (left w) ≡ take 128 (old w)) ⊎ ((take 128 (left w) ≡ take 128 (new w)) ⊎ (take 128 (left w) ≡ take 128 before.valid))
+      → (crc32c (standing (left w)) ≡ le32 (left w) 28 → ⊥)
+      → HarmfulAccident w before winner → ⊥
+
 -- The theorem holds where only those that do harm are ruled out,
 abbrev pub HarmfulAlone : Type 0
 HarmfulAlone =
@@ -183,6 +218,13 @@ pub record NumbersAnswered : Type 0 where
       → next_number (frames ps) o ≡ of_operator o (after (highest (numbers o (shown ps))))
   pub heal : (ps : List Pair) (o : ℕ) → 1 ≤ length ps → length ps ≤ most_pairs → operators_in_range true (shown ps) ≡ true → Every NumberedPair ps
       → heal_number (frames ps) o ≡ of_operator o (after (highest_winner o (shown ps)))
+
+-- So they do over every store that a history leads to.
+pub record NumbersReached : Type 0 where
+  pub next : (ts : List Tracked) → Reached HarmfulAccident ts → (o : ℕ)
+      → next_number (frames (pairs ts)) o ≡ of_operator o (after (highest (numbers o (shown (pairs ts)))))
+  pub heal : (ts : List Tracked) → Reached HarmfulAccident ts → (o : ℕ)
+      → heal_number (frames (pairs ts)) o ≡ of_operator o (after (highest_winner o (shown (pairs ts))))
 
 -- In a history an operator's highest number is a winner's; and where a slot of the pair p is named, the highest of its operator's other
 -- slots is.

@@ -3,7 +3,7 @@
 #![tactic(auto)]
 
 ghost use Rattle.history.specs.History.{HistoryTheorem};
-ghost use Rattle.history.specs.Laws.{AnyStoreBegins, AnyWriteAllowed, AnyVolumeWriteAllowed, AnyHealAllowed, AnyCutGoesOn, KnownRecords, ReadIsKnown, TheoremWithoutMark, UnmarkedBegins, UnmarkedFinish, UnmarkedCut, StartMark, FinishedMark, LinkAtMost, HarmfulAlone, HarmfulIsAccident, OnlyTheWritten, NumbersAnswered, NumbersOfHistory, AllowedIsPlanned, FreePlanIsAllowed, HealPlanIsAllowed};
+ghost use Rattle.history.specs.Laws.{AnyStoreBegins, AnyWriteAllowed, AnyVolumeWriteAllowed, AnyHealAllowed, AnyCutGoesOn, EachStepPromised, KnownRecords, ReadIsKnown, TheoremWithoutMark, UnmarkedBegins, UnmarkedFinish, UnmarkedCut, StartMark, FinishedMark, LinkAtMost, FailedPayload, HarmfulAlone, HarmfulIsAccident, OnlyTheWritten, NumbersAnswered, NumbersReached, NumbersOfHistory, AllowedIsPlanned, FreePlanIsAllowed, HealPlanIsAllowed};
 
 pub fn history_theorem()
     ensures { HistoryTheorem }
@@ -16,6 +16,12 @@ pub fn asked_for()
     ensures volume { AnyVolumeWriteAllowed }
     ensures heal { AnyHealAllowed }
     ensures cut { AnyCutGoesOn }
+{}
+
+// Then everything is promised, over what it asks for, written out.
+#[tactic(auto, using(crate::proofs::Theorem::each_step_promised))]
+pub fn asked_steps()
+    ensures { EachStepPromised }
 {}
 
 // Which records are known, and that what is read is one of them.
@@ -41,8 +47,10 @@ pub fn without_mark()
 {}
 
 // What is no accident.
+#[tactic(auto, using(crate::proofs::Theorem::failed_payload))]
 pub fn no_accident()
-    ensures { LinkAtMost }
+    ensures written { LinkAtMost }
+    ensures payload { FailedPayload }
 {}
 
 // Of its accidents one kind is not needed, and a header that stands again does no harm.
@@ -59,9 +67,10 @@ pub fn named_slot()
 {}
 
 // The numbers of its writes are those that `next_number` and `heal_number` answer, and a winner has the highest.
-#[tactic(auto, using(crate::proofs::PlanLaws::numbers_answered, crate::proofs::PlanLaws::numbers_of_history))]
+#[tactic(auto, using(crate::proofs::PlanLaws::numbers_answered, crate::proofs::PlanLaws::numbers_reached, crate::proofs::PlanLaws::numbers_of_history))]
 pub fn numbers()
     ensures answered { NumbersAnswered }
+    ensures reached { NumbersReached }
     ensures highest { NumbersOfHistory }
 {}
 

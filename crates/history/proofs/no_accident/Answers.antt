@@ -2,5 +2,5 @@
 use Rattle.history.proofs.Theorem.{link_at_most}
 use Rattle.history.proofs.no_accident.Goals as goal
 
-pub returns : goal.returns
-returns c = link_at_most
+pub returns-clause-written : goal.returns-clause-written
+returns-clause-written c = link_at_most
