@@ -1,5 +1,5 @@
 -- The theorem on the creation of a store, and what it asks for.
-use Rattle.std.proofs.Common.{◌≡◌, ap, subst, ◌∙◌, true, false, ◌==◌, List, [], ◌∷◌, ◌++◌, ℕ, ◌≤◌, arith, eq-eqb, le-leb, length}
+use Rattle.std.proofs.Common.{◌≡◌, refl, ap, subst, ◌∙◌, true, false, ◌==◌, List, [], ◌∷◌, ◌++◌, ℕ, ◌≤◌, arith, eq-eqb, le-leb, length}
 use Rattle.std.specs.List.{list_all}
 use Rattle.slot.specs.Read.{is_blank, is_slot_length, validate}
 use Rattle.slot.specs.declared.slot.SlotIndex.{SlotIndex}
@@ -17,7 +17,7 @@ use Rattle.plan.proofs.FinishLaws.{row_put}
 use Rattle.history.specs.History.{Reached}
 use Rattle.history.proofs.Theorem.{start_mark}
 use Rattle.creation.specs.Creation.{NewPair, FirstWrite, Creating, NeitherValid, NeitherAnswered, NoStore, CreationTheorem}
-use Rattle.creation.specs.Laws.{ZerosAreBlank, AnyRowBegins, AnyPageIsWritten, VolumeIsWrittenLast, Begins, MadeBegins, WholeBegins}
+use Rattle.creation.specs.Laws.{ZerosAreBlank, AnyRowBegins, AnyPageIsWritten, VolumeIsWrittenLast, AnyFirstWrite, AnyCreationCut, Begins, MadeBegins, WholeBegins}
 use Rattle.creation.proofs.PairLaws.{finished_sound, whole_sound, torn_not_valid, left_bytes}
 use Rattle.creation.proofs.RowLaws.{NeverValid, neither_judged, blank_never, Stage, row_of, stage_of, stage_put, all_sound, stage_numbered}
 
@@ -164,3 +164,23 @@ any_page_is_written w creating new slot_a written page =
 pub volume_is_written_last : VolumeIsWrittenLast
 volume_is_written_last w creating new slot_a written volume last =
     Creating.write w creating (record { new_pair = new; slot_a = slot_a; written = written; volume_last = λ first. last })
+
+any_volume_last : (before behind : List Pair) → (before ≡ [] → Every (λ (p : Pair). NewPair p → ⊥) behind) → is_empty before ≡ true
+    → Every (λ (p : Pair). NewPair p → ⊥) behind
+any_volume_last [] behind last volume = last refl
+any_volume_last (q ∷ before) behind last volume = absurd cc
+
+pub any_first_write : AnyFirstWrite
+any_first_write w new slot_a written last =
+    record { new_pair = new; slot_a = slot_a; written = written; volume_last = any_volume_last w.before w.behind last }
+
+pub any_creation_cut : AnyCreationCut
+any_creation_cut =
+    record {
+      half_made = λ p ps creating new few. creation_theorem.half_made p ps creating new few;
+      page_cut = λ w p ps page creating first few any. creation_theorem.page_cut w creating first few (ap is_empty page) any;
+      volume_cut = λ w volume creating first few any none torn. creation_theorem.volume_cut w creating first few (ap is_empty volume) any none torn;
+      volume_whole = λ w volume creating first any stands. creation_theorem.volume_whole w creating first (ap is_empty volume) any stands;
+      made = λ w volume creating first. creation_theorem.made w creating first (ap is_empty volume);
+      neither = λ p ps few range numbered never. neither_answered p ps few range numbered never;
+    }

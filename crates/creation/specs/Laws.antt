@@ -1,16 +1,19 @@
 -- Laws on the words of the creation of a store (docs/FORMAT.md, "The creation of a store"): what it asks for, that the functions which plan a
 -- write plan these, and that a history begins with the store that was made. Each is the contract of a function.
-use Rattle.std.specs.Prelude.{◌≡◌, true, false, List, ◌∷◌, ◌++◌, ℕ, ◌^◌, ◌≤◌, length, take, map, replicate, Some, Ok}
+use Rattle.std.specs.Prelude.{◌≡◌, true, false, List, [], ◌∷◌, ◌++◌, ℕ, ◌+◌, ◌^◌, ◌≤◌, length, take, map, replicate, Some, Ok}
 use Rattle.slot.specs.declared.slot.SlotIndex.{SlotIndex}
+use Rattle.slot.specs.declared.slot.SlotInfo.{SlotInfo}
 use Rattle.slot.specs.declared.slot.SlotStatus.{SlotStatus}
-use Rattle.cut.specs.Store.{Every, Slot, Pair, clean_mark, slot_at, status, frames, SoundSlot, IsRow}
-use Rattle.cut.specs.Cut.{Tear, Write, store, size, after, Anywhere, next_number, Written, whole, is_empty}
+use Rattle.judge.specs.Numbers.{numbers, highest}
+use Rattle.judge.specs.Operators.{operators_in_range}
+use Rattle.cut.specs.Store.{Every, Slot, Pair, clean_mark, slot_at, status, shown, frames, SoundSlot, IsRow, Sound}
+use Rattle.cut.specs.Cut.{Tear, Write, store, size, old, new, left, after, Anywhere, next_number, Written, whole, Accident, is_empty}
 use Rattle.plan.specs.declared.write.Plan.{Plan}
 use Rattle.plan.specs.Plan.{plan_write}
-use Rattle.plan.specs.Promise.{write_of, IsGiven, finished}
+use Rattle.plan.specs.Promise.{NumberedPair, write_of, IsGiven, finished}
 use Rattle.history.specs.History.{pairs, started, read_mark, HistoryAccident, Reached}
 use Rattle.history.specs.Laws.{plan_of}
-use Rattle.creation.specs.Creation.{NewPair, FirstWrite, Creating}
+use Rattle.creation.specs.Creation.{NewPair, FirstWrite, Creating, NoStore}
 
 -- ---- what it asks for
 
@@ -41,6 +44,26 @@ abbrev pub VolumeIsWrittenLast : Type 0
 VolumeIsWrittenLast =
     (w : Write) → Creating (store w) → NewPair w.pair → w.index ≡ SlotIndex.A → Written 1 0 (next_number (store w) w.pair) w
     → is_empty w.before ≡ true → Every (λ (p : Pair). NewPair p → ⊥) w.behind → Creating (finished w)
+
+-- A first write is no more than these together,
+abbrev pub AnyFirstWrite : Type 0
+AnyFirstWrite =
+    (w : Write) → NewPair w.pair → w.index ≡ SlotIndex.A
+    → Written 1 0 (highest (numbers w.pair.operator (shown (w.before ++ w.pair ∷ w.behind))) + 1) w
+    → (w.before ≡ [] → Every (λ (p : Pair). NewPair p → ⊥) w.behind) → FirstWrite w
+
+-- and over this the theorem is: of rows of up to 112 pairs, wherever a first write is cut.
+pub record AnyCreationCut : Type 0 where
+  pub half_made : (p : Pair) (ps : List Pair) → Creating (p ∷ ps) → NewPair p → length (p ∷ ps) ≤ 112 → NoStore (p ∷ ps)
+  pub page_cut : (w : Write) (p : Pair) (ps : List Pair) → w.before ≡ p ∷ ps → Creating (store w) → FirstWrite w → length (store w) ≤ 112
+      → Anywhere w.tear (size w) → NoStore (after w)
+  pub volume_cut : (w : Write) → w.before ≡ [] → Creating (store w) → FirstWrite w → length (store w) ≤ 112
+      → Anywhere w.tear (size w) → (Accident (left w) (old w) (new w) w.payload → ⊥) → whole w ≡ false → NoStore (after w)
+  pub volume_whole : (w : Write) → w.before ≡ [] → Creating (store w) → FirstWrite w → Anywhere w.tear (size w) → whole w ≡ true → Sound (after w)
+  pub made : (w : Write) → w.before ≡ [] → Creating (store w) → FirstWrite w → Sound (finished w)
+  -- The judge answers so of any row that it does not refuse where neither slot of pair 0 is Valid.
+  pub neither : (p : Pair) (ps : List Pair) → length (p ∷ ps) ≤ 112 → operators_in_range true (shown (p ∷ ps)) ≡ true → Every NumberedPair (p ∷ ps)
+      → ((index : SlotIndex) (i : SlotInfo) → status (slot_at index p) ≡ SlotStatus.Valid i → ⊥) → NoStore (p ∷ ps)
 
 -- ---- the plans
 

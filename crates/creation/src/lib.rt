@@ -4,7 +4,7 @@
 #![tactic(auto)]
 
 ghost use Rattle.creation.specs.Creation.{NeitherJudged, NeitherAnswered, CreationTheorem};
-ghost use Rattle.creation.specs.Laws.{ZerosAreBlank, BlankIsNew, AnyRowBegins, AnyPageIsWritten, VolumeIsWrittenLast, FirstIsPlanned, PlanIsFirst, MadeBegins, WholeBegins};
+ghost use Rattle.creation.specs.Laws.{ZerosAreBlank, BlankIsNew, AnyRowBegins, AnyPageIsWritten, VolumeIsWrittenLast, AnyFirstWrite, AnyCreationCut, FirstIsPlanned, PlanIsFirst, MadeBegins, WholeBegins};
 
 /// A store is there once the volume record stands whole, and not before.
 #[tactic(auto, using(crate::proofs::RowLaws::neither_judged, crate::proofs::Theorem::creation_theorem))]
@@ -22,6 +22,13 @@ pub fn asked_for()
     ensures row { AnyRowBegins }
     ensures page { AnyPageIsWritten }
     ensures volume { VolumeIsWrittenLast }
+    ensures first { AnyFirstWrite }
+{}
+
+/// The theorem over what it asks for, written out.
+#[tactic(auto, using(crate::proofs::Theorem::any_creation_cut))]
+pub fn asked_cut()
+    ensures { AnyCreationCut }
 {}
 
 /// `plan_write` gives its writes, and what it gives to a pair that was not written is one.
