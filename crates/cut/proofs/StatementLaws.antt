@@ -26,7 +26,7 @@ use Rattle.meta.specs.declared.meta2.VolumeMeta2.{VolumeMeta2}
 use Rattle.meta.proofs.VolumeLaws.{volume_decoded}
 use Rattle.cut.specs.Store.{Every, mark_by, clean_mark, store_mark, Slot, Pair, slot_at, status, report, shown, frames, Beside, SoundPair, IsPage, IsRow}
 use Rattle.cut.specs.Cut.{Tear, Ascending, Write, store, size, old, new, cut, torn, left, next_number, CutPoint, CorrectWrite, Accident, payload_by, SectorAccident, is_empty, handed, PayloadIs}
-use Rattle.cut.specs.Laws.{AnyRest, AnyTyped, AnySlot, AnyFirst, AnyBoth, AnyPage, EveryPair, AnyPairs, AnyRow, AnyWritten, AnyCorrect, AnyCorrectWrite, AnyPoint, of_operator, SoundUnderAny, UnmarkedRecord, UnmarkedStore, UnmarkedAsked, PageHanded, TornHanded, WholeHanded, OldHeaderKept, NoneInOrder, zeros, PairFrame, OnePayload, HasSlots}
+use Rattle.cut.specs.Laws.{AnyRest, AnyTyped, AnySlot, AnyFirst, AnyBoth, AnyPage, EveryPair, AnyPairs, AnyRow, AnyWritten, AnyCorrect, AnyCorrectWrite, AnyPoint, of_operator, SoundUnderAny, UnmarkedRecord, UnmarkedStore, UnmarkedAsked, PageHanded, TornHanded, WholeHanded, OldHeaderKept, NoneInOrder, zeros, PairFrame, OnePayload, HasSlots, AnyHasSlots}
 use Rattle.cut.proofs.StatusLaws.{false_true}
 use Rattle.cut.proofs.PairLaws.{last_is}
 use Rattle.cut.proofs.CutLaws.{kept_by_header}
@@ -294,3 +294,9 @@ any_correct_write w correct = correct
 
 pub any_point : AnyPoint
 any_point k size point = point
+
+-- ---- which pairs have the slots that are read
+
+pub any_has_slots : AnyHasSlots
+any_has_slots p a ea b eb bytes_a expect_a bytes_b expect_b =
+    record { bytes_a = bytes_a; expect_a = expect_a; bytes_b = bytes_b; expect_b = expect_b }

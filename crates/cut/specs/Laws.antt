@@ -263,3 +263,9 @@ pub record HasSlots (p : Pair) (a : List ℕ) (ea : Expect) (b : List ℕ) (eb :
   pub expect_a : p.a.expect ≡ ea
   pub bytes_b : p.b.bytes ≡ b
   pub expect_b : p.b.expect ≡ eb
+
+-- Nothing else is asked of it.
+abbrev pub AnyHasSlots : Type 0
+AnyHasSlots =
+    (p : Pair) (a : List ℕ) (ea : Expect) (b : List ℕ) (eb : Expect) → p.a.bytes ≡ a → p.a.expect ≡ ea → p.b.bytes ≡ b → p.b.expect ≡ eb
+    → HasSlots p a ea b eb

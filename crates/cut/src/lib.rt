@@ -7,7 +7,7 @@ ghost use Rattle.pair.specs.Winner.{read_pair};
 ghost use Rattle.judge.specs.Same.{NothingGiven, ChecksumGiven, NumbersGiven};
 ghost use Rattle.cut.specs.Store.{Slot, Pair, Typed};
 ghost use Rattle.cut.specs.Cut.{CutTheorem, PayloadIs};
-ghost use Rattle.cut.specs.Laws.{VolumeRefused, PageRefused, AnyRest, AnyTyped, AnySlot, AnyFirst, AnyBoth, AnyPage, AnyPairs, AnyRow, AnyWritten, AnyCorrect, AnyCorrectWrite, AnyCutSurvived, AnyPoint, SoundUnderAny, Encoded, EachSector, AnySectors, AnywhereInOrder, AnywhereBySectors, UnmarkedRecord, UnmarkedStore, UnmarkedAsked, VolumeAsked, PageHanded, TornHanded, WholeHanded, FailedSum, FailedPayload, OlderAtMost, OlderSurvived, OldHeaderKept, NoneInOrder, PairFrame, OnePayload, HasSlots};
+ghost use Rattle.cut.specs.Laws.{VolumeRefused, PageRefused, AnyRest, AnyTyped, AnySlot, AnyFirst, AnyBoth, AnyPage, AnyPairs, AnyRow, AnyWritten, AnyCorrect, AnyCorrectWrite, AnyCutSurvived, AnyPoint, SoundUnderAny, Encoded, EachSector, AnySectors, AnywhereInOrder, AnywhereBySectors, UnmarkedRecord, UnmarkedStore, UnmarkedAsked, VolumeAsked, PageHanded, TornHanded, WholeHanded, FailedSum, FailedPayload, OlderAtMost, OlderSurvived, OldHeaderKept, NoneInOrder, PairFrame, OnePayload, HasSlots, AnyHasSlots};
 
 use judge::pairs::Version;
 use pair::pair::PairReport;
@@ -132,6 +132,12 @@ pub fn frames()
 // Of every pair one record at most is read back.
 pub fn one_record()
     ensures { OnePayload }
+{}
+
+// Which pairs have these slots.
+#[tactic(auto, using(crate::proofs::StatementLaws::any_has_slots))]
+pub fn read_slots()
+    ensures { AnyHasSlots }
 {}
 
 // What the theorem calls read back is what `winner_payload` hands out: its part is the record of every pair with these slots.
