@@ -1,17 +1,22 @@
 -- The winner's payload (docs/FORMAT.md, "The C interface") as a C host finds it: its slot (0 none, 1 A, 2 B), its start and its
 -- length in that slot.
-use Rattle.std.specs.Prelude.{◌≡◌, List, [], ℕ, length, Option, Some, None}
+use Rattle.std.specs.Prelude.{◌≡◌, ◌==◌, if◌then◌else◌, List, [], ℕ, length, take, drop, Option, Some, None}
 use Rattle.std.specs.Borrow.{Bor}
 use Rattle.codec.specs.Place.{Part}
-use Rattle.slot.specs.Numbers.{status_values}
+use Rattle.slot.specs.Numbers.{status_values, choice_number}
 use Rattle.slot.specs.Payload.{payload_start, payload_length}
 use Rattle.slot.specs.Status.{slot_number}
+use Rattle.slot.specs.declared.slot.Expect.{Expect}
 use Rattle.slot.specs.declared.slot.SlotIndex.{SlotIndex}
 use Rattle.slot.specs.declared.slot.SlotInfo.{SlotInfo}
 use Rattle.pair.specs.Numbers.{report_numbers}
 use Rattle.pair.specs.Pair.{winner_info}
 use Rattle.pair.specs.Winner.{read_pair}
 use Rattle.pair.specs.declared.pair.PairReport.{PairReport}
+use Rattle.judge.specs.declared.verdict.PairVerdict.{PairVerdict}
+use Rattle.cut.specs.Store.{Pair}
+use Rattle.cut.specs.Cut.{ReadBack}
+use Rattle.cut.specs.Laws.{HasSlots}
 use Rattle.store_io.specs.Arguments.{expect_of}
 
 -- Both slots of a pair share all but the offset and the index.
@@ -47,3 +52,17 @@ pub data PlacedAt (slot start len : ℕ) (a b part : Bor (List ℕ)) : Type 0 wh
   in_a : slot ≡ 1 → Part a start len part → length part.now ≡ len → PlacedAt slot start len a b part
   -- or in B.
   in_b : slot ≡ 2 → Part b start len part → length part.now ≡ len → PlacedAt slot start len a b part
+
+-- The bytes of slots A and B that these numbers name.
+abbrev pub bytes_at : (slot start len : ℕ) → (a b : List ℕ) → List ℕ
+bytes_at slot start len a b = if slot == 1 then take len (drop start a) else if slot == 2 then take len (drop start b) else []
+
+-- They are the record that is read back, in the slot that the verdict names as winner.
+pub record ReadAt (slot start len : ℕ) (a b : List ℕ) (v : PairVerdict) (r : List ℕ) : Type 0 where
+  pub bytes : bytes_at slot start len a b ≡ r
+  pub named : choice_number v.winner ≡ slot
+
+-- So it is of every pair with these slots of which a record is read back, as of each pair after a cut and after each write of a history.
+abbrev pub ReadsBack : (slot start len : ℕ) → (a : List ℕ) → Expect → (b : List ℕ) → Expect → Type 0
+ReadsBack slot start len a expect_a b expect_b =
+    (p : Pair) (v : PairVerdict) (r : List ℕ) → HasSlots p a expect_a b expect_b → ReadBack p v r → ReadAt slot start len a b v r
