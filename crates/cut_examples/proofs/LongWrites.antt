@@ -1,4 +1,4 @@
--- What specs/Writes.antt and specs/Cuts.antt say of the write of a page of four entries, cut by sectors.
+-- What specs/Writes.antt and specs/Cuts.antt say of the write of a page of four entries, cut by sectors and in ascending order.
 use Rattle.std.proofs.Common.{◌≡◌, refl, sym, ◌∙◌, Bool, true, List, [], ◌∷◌, ℕ, ◌+◌, ◌≤◌, lit≤, lit<, length, Some, Ok}
 use Rattle.codec.specs.Bytes.{AllBytes, le}
 use Rattle.codec.specs.Crc32c.{crc32c, final_remainder, remainder, digest, reversed}
@@ -18,13 +18,13 @@ use Rattle.judge.specs.declared.records.SlotRead.{SlotRead}
 use Rattle.meta.specs.Entry.{entry_bytes}
 use Rattle.meta.specs.Page.{header_at, decode_page, entries, header_bytes as page_header_bytes, page_bytes}
 use Rattle.cut.specs.Store.{Every, Page, accepts, SoundPair, Sound}
-use Rattle.cut.specs.Cut.{Sectors, with_slot, by_sector, torn, CorrectWrite, stands_whole, whole}
+use Rattle.cut.specs.Cut.{Tear, Ascending, Sectors, Write, with_slot, cut, by_sector, torn, CorrectWrite, stands_whole, whole}
 use Rattle.cut.proofs.ByteLaws.{bytes_tested}
 use Rattle.cut.proofs.StateLaws.{sound_won}
 use Rattle.cut_examples.specs.Stores.{long_record, zeros_for, volume_pair, first_page, second_page, later_page, long_older_fields, long_newer_fields, long_page, long_store}
-use Rattle.cut_examples.specs.Writes.{IsMet, StoresSound, StoresMarked, long_fields, long_write, neither, the_first, the_second, both, LongMet, LongWhole}
+use Rattle.cut_examples.specs.Writes.{IsMet, StoresSound, StoresMarked, write_to, long_fields, long_write, long_write_in_order, neither, the_first, the_second, both, LongMet, LongInOrderMet, LongWhole, LongInOrderWhole}
 use Rattle.cut_examples.specs.Computed.{torn_payload, valid_read}
-use Rattle.cut_examples.specs.Cuts.{SectorCuts}
+use Rattle.cut_examples.specs.Cuts.{SectorCuts, LongCuts}
 use Rattle.cut_examples.proofs.Writes.{Known, fields_fit, written_known, both_written, sound, closed_store_sound, closed_marked, later_store_sound, sound_with, unmarked_with, unmarked_first, highest_with, tear_tests, met_by, write_correct, one_above, summed_slot, summed_is}
 use Rattle.cut_examples.proofs.SlotsRead.{PairRecord, read_once, read_once_is, pair_record}
 use Rattle.cut_examples.proofs.Computed.{Written, page_at}
@@ -116,27 +116,35 @@ pub record_fits : 128 + length new_record ≤ 1024
 unfolding page_bytes page_header_bytes entry_bytes
 record_fits = lit≤ tt
 
-long_correct : (reached : ℕ → Bool) → CorrectWrite (long_write reached)
+abbrev torn_long : Tear → Write
+torn_long tear = write_to (volume_pair ∷ []) long_page (second_page ∷ []) long_fields new_record tear
+
+long_correct : (tear : Tear) → CorrectWrite (torn_long tear)
 unfolding long_sound both_written
-long_correct reached =
+long_correct tear =
     write_correct (volume_pair ∷ []) long_page (second_page ∷ []) long_fields new_fits refl refl
     (one_above
     (highest_with long_page (info_of long_older_fields older_record) (info_of long_newer_fields newer_record) refl older_known.valid newer_known.valid))
     (info_of long_newer_fields newer_record) (sound_won long_page long_sound) refl (sym header_sums.1) new_record record_bytes.2 accepted.2
-    record_fits (Sectors reached)
+    record_fits tear
 
 -- ---- the cuts
 
-long_met : (reached : ℕ → Bool) → tear_tests 1024 (Sectors reached) new_slot older_slot new_record ≡ true → IsMet (long_write reached)
-long_met reached =
-    met_by (long_write reached) long_store_sound (lit≤ tt) (unmarked_first (long_write reached) (unmarked_with long_page)) (long_correct reached)
+long_met : (tear : Tear) → tear_tests 1024 tear new_slot older_slot new_record ≡ true → IsMet (torn_long tear)
+long_met tear =
+    met_by (torn_long tear) long_store_sound (lit≤ tt) (unmarked_first (torn_long tear) (unmarked_with long_page)) (long_correct tear)
     older_slot new_slot older_slot_is new_slot_is
 
 pub long_cuts : LongMet
 unfolding by_sector payload_of header_sum header_bytes page_bytes page_header_bytes entry_bytes le crc32c final_remainder remainder digest reversed
 long_cuts =
-    Every.more (long_met neither refl)
-    (Every.more (long_met the_first refl) (Every.more (long_met the_second refl) (Every.more (long_met both refl) Every.none)))
+    Every.more (long_met (Sectors neither) refl)
+    (Every.more (long_met (Sectors the_first) refl) (Every.more (long_met (Sectors the_second) refl) (Every.more (long_met (Sectors both) refl) Every.none)))
+
+pub long_cuts_in_order : LongInOrderMet
+unfolding cut payload_of header_sum header_bytes page_bytes page_header_bytes entry_bytes le crc32c final_remainder remainder digest reversed
+long_cuts_in_order =
+    Every.more (long_met (Ascending 528) refl) (Every.more (long_met (Ascending 529) refl) (Every.more (long_met (Ascending 1024) refl) Every.none))
 
 pub long_whole : LongWhole
 unfolding stands_whole by_sector header_bytes page_bytes page_header_bytes entry_bytes
@@ -144,6 +152,13 @@ long_whole = (whole_of the_first, whole_of the_second, whole_of both)
   where
     whole_of : (reached : ℕ → Bool) → whole (long_write reached) ≡ stands_whole (by_sector reached 0 new_slot older_slot) new_slot new_record
     whole_of reached = rw (new_slot_is, older_slot_is)
+
+pub long_whole_in_order : LongInOrderWhole
+unfolding stands_whole cut header_bytes page_bytes page_header_bytes entry_bytes
+long_whole_in_order = (whole_of 528, whole_of 529)
+  where
+    whole_of : (k : ℕ) → whole (long_write_in_order k) ≡ stands_whole (cut k new_slot older_slot) new_slot new_record
+    whole_of k = rw (new_slot_is, older_slot_is)
 
 -- ---- as they are read
 
@@ -163,23 +178,32 @@ long_with s x read won {r} back takes =
     rw newer_slot_is
     (pair_record s newer_slot long_page.a.expect long_page.b.expect (Page 0 41) (record { a = x; b = newer_read; operator = 0 }) r read newer_is won back takes)
 
--- With these sectors new.
-long_read : (reached : ℕ → Bool) (x : SlotRead) → read_once (torn (Sectors reached) new_slot older_slot) long_page.a.expect ≡ x
+-- With what of the write reached it.
+long_read : (tear : Tear) (x : SlotRead) → read_once (torn tear new_slot older_slot) long_page.a.expect ≡ x
     → {index : SlotIndex} {i : SlotInfo} → winner_info (decide x.status newer_read.status) ≡ Some (index, i)
-    → {r : List ℕ} → payload_of i (by_index index (torn (Sectors reached) new_slot older_slot) newer_slot) ≡ r → accepts (Page 0 41) r ≡ true
-    → Written (long_write reached) x (record { a = x; b = newer_read; operator = 0 }) r
-long_read reached x read won {r} back takes =
+    → {r : List ℕ} → payload_of i (by_index index (torn tear new_slot older_slot) newer_slot) ≡ r → accepts (Page 0 41) r ≡ true
+    → Written (torn_long tear) x (record { a = x; b = newer_read; operator = 0 }) r
+long_read tear x read won {r} back takes =
     record {
-      slot_is = rw (new_slot_is, older_slot_is) (read_once_is (torn (Sectors reached) new_slot older_slot) long_page.a.expect ∙ read);
-      pair_is = rw (new_slot_is, older_slot_is) (long_with (torn (Sectors reached) new_slot older_slot) x read won back takes);
+      slot_is = rw (new_slot_is, older_slot_is) (read_once_is (torn tear new_slot older_slot) long_page.a.expect ∙ read);
+      pair_is = rw (new_slot_is, older_slot_is) (long_with (torn tear new_slot older_slot) x read won back takes);
     }
 
 pub long_computed : SectorCuts
 unfolding by_sector is_slot_length check passes_checksum is_malformed passes_payload payload_of header_sum header_bytes page_bytes page_header_bytes entry_bytes le crc32c final_remainder remainder digest reversed decide filled part_bytes judge_frames frames_left frames_error judgement verdicts row_rules first_verdicts first_tally
 long_computed =
     record {
-      sectors_none = page_at (long_read neither (valid_read 1 2 0x3b80_d549 0 408) refl refl refl accepted.1) refl refl;
-      sectors_first = page_at (long_read the_first (torn_payload 3 5 0x4d45_7736 0xd7d6_5030) refl refl refl accepted.1) refl refl;
-      sectors_second = page_at (long_read the_second (torn_payload 1 2 0x3b80_d549 0) refl refl refl accepted.1) refl refl;
-      sectors_both = page_at (long_read both (valid_read 3 5 0x4d45_7736 0xd7d6_5030 408) refl refl refl accepted.2) refl refl;
+      sectors_none = page_at (long_read (Sectors neither) (valid_read 1 2 0x3b80_d549 0 408) refl refl refl accepted.1) refl refl;
+      sectors_first = page_at (long_read (Sectors the_first) (torn_payload 3 5 0x4d45_7736 0xd7d6_5030) refl refl refl accepted.1) refl refl;
+      sectors_second = page_at (long_read (Sectors the_second) (torn_payload 1 2 0x3b80_d549 0) refl refl refl accepted.1) refl refl;
+      sectors_both = page_at (long_read (Sectors both) (valid_read 3 5 0x4d45_7736 0xd7d6_5030 408) refl refl refl accepted.2) refl refl;
+    }
+
+pub long_in_order_computed : LongCuts
+unfolding cut is_slot_length check passes_checksum is_malformed passes_payload payload_of header_sum header_bytes page_bytes page_header_bytes entry_bytes le crc32c final_remainder remainder digest reversed decide filled part_bytes judge_frames frames_left frames_error judgement verdicts row_rules first_verdicts first_tally
+long_in_order_computed =
+    record {
+      long_528 = page_at (long_read (Ascending 528) (torn_payload 3 5 0x4d45_7736 0xd7d6_5030) refl refl refl accepted.1) refl refl;
+      long_529 = page_at (long_read (Ascending 529) (valid_read 3 5 0x4d45_7736 0xd7d6_5030 408) refl refl refl accepted.2) refl refl;
+      long_1024 = page_at (long_read (Ascending 1024) (valid_read 3 5 0x4d45_7736 0xd7d6_5030 408) refl refl refl accepted.2) refl refl;
     }

@@ -5,7 +5,7 @@ use Rattle.slot.specs.declared.slot.SlotIndex.{SlotIndex}
 use Rattle.judge.specs.declared.records.SlotRead.{SlotRead}
 use Rattle.cut.specs.Store.{Every}
 use Rattle.cut_examples.specs.Stores.{volume_record, reopened_record, page_record, long_record}
-use Rattle.cut_examples.specs.Writes.{page_write, volume_write, opening_write, second_write, later_write, long_write, neither, the_first, the_second, both}
+use Rattle.cut_examples.specs.Writes.{page_write, volume_write, opening_write, second_write, later_write, long_write, long_write_in_order, neither, the_first, the_second, both}
 use Rattle.cut_examples.specs.Computed.{Computed, blank_read, bad_magic, torn_header, torn_payload, valid_read}
 
 -- ---- the records
@@ -136,3 +136,11 @@ pub record SectorCuts : Type 0 where
   pub sectors_second : Computed (long_write the_second) (torn_payload 1 2 0x3b80_d549 0) None false (0 ∷ 1 ∷ 0 ∷ 1 ∷ 0 ∷ 2 ∷ 2 ∷ 0 ∷ 0 ∷ 1 ∷ 0 ∷ 1 ∷ []) long_old_records
   -- The new slot is Valid and newer: Winner.
   pub sectors_both : Computed (long_write both) (valid_read 3 5 0x4d45_7736 0xd7d6_5030 408) None false (0 ∷ 1 ∷ 0 ∷ 1 ∷ 0 ∷ 1 ∷ 0 ∷ 1 ∷ 0 ∷ 1 ∷ 0 ∷ 1 ∷ []) long_new_records
+
+-- The same write in ascending order, cut in its second sector.
+pub record LongCuts : Type 0 where
+  -- The payload fails its checksum, generation, previous checksum and number follow on: InFlight.
+  pub long_528 : Computed (long_write_in_order 528) (torn_payload 3 5 0x4d45_7736 0xd7d6_5030) (Some (1, SlotIndex.A)) false (0 ∷ 1 ∷ 0 ∷ 1 ∷ 0 ∷ 2 ∷ 3 ∷ 0 ∷ 0 ∷ 1 ∷ 0 ∷ 1 ∷ []) long_old_records
+  -- The new slot is Valid and newer: Winner.
+  pub long_529 : Computed (long_write_in_order 529) (valid_read 3 5 0x4d45_7736 0xd7d6_5030 408) None false (0 ∷ 1 ∷ 0 ∷ 1 ∷ 0 ∷ 1 ∷ 0 ∷ 1 ∷ 0 ∷ 1 ∷ 0 ∷ 1 ∷ []) long_new_records
+  pub long_1024 : Computed (long_write_in_order 1024) (valid_read 3 5 0x4d45_7736 0xd7d6_5030 408) None false (0 ∷ 1 ∷ 0 ∷ 1 ∷ 0 ∷ 1 ∷ 0 ∷ 1 ∷ 0 ∷ 1 ∷ 0 ∷ 1 ∷ []) long_new_records

@@ -88,12 +88,17 @@ long_fields = fields 10 3 SlotIndex.A 3 0xd7d6_5030 5
 abbrev pub long_write : (ℕ → Bool) → Write
 long_write reached = write_to (volume_pair ∷ []) long_page (second_page ∷ []) long_fields (long_record 0x2_8000 5) (Sectors reached)
 
+-- The same in ascending order.
+abbrev pub long_write_in_order : ℕ → Write
+long_write_in_order k = write_to (volume_pair ∷ []) long_page (second_page ∷ []) long_fields (long_record 0x2_8000 5) (Ascending k)
+
 -- The stores that they are written to.
 abbrev pub StoresWritten : Type 0
 StoresWritten =
     (k : ℕ) (reached : ℕ → Bool)
     → (store (page_write k) ≡ first_store) × (store (volume_write k) ≡ first_store) × (store (opening_write k) ≡ closed_store)
     × (store (second_write k) ≡ first_store) × (store (later_write k) ≡ later_store) × (store (long_write reached) ≡ long_store)
+    × (store (long_write_in_order k) ≡ long_store)
 
 -- ---- the cuts
 
@@ -137,6 +142,11 @@ both j = true
 abbrev pub LongMet : Type 0
 LongMet = Every (λ (reached : ℕ → Bool). IsMet (long_write reached)) (neither ∷ the_first ∷ the_second ∷ both ∷ [])
 
+-- In ascending order the payload fails after 528 bytes, with the new end and the old footprint number of its last entry, and after 529 it is the
+-- new one, since zeros follow.
+abbrev pub LongInOrderMet : Type 0
+LongInOrderMet = Every (λ (k : ℕ). IsMet (long_write_in_order k)) (528 ∷ 529 ∷ 1024 ∷ [])
+
 -- ---- what stands whole, and the mark
 
 -- The page stands whole with its last byte that is not zero, and the one of four entries with both sectors.
@@ -145,6 +155,9 @@ StandsWhole = (whole (page_write 133) ≡ false) × (whole (page_write 134) ≡ 
 
 abbrev pub LongWhole : Type 0
 LongWhole = (whole (long_write the_first) ≡ false) × (whole (long_write the_second) ≡ false) × (whole (long_write both) ≡ true)
+
+abbrev pub LongInOrderWhole : Type 0
+LongInOrderWhole = (whole (long_write_in_order 528) ≡ false) × (whole (long_write_in_order 529) ≡ true)
 
 -- The judge is handed the new record's mark once the volume record stands whole, and the mark of before until then.
 abbrev pub MarkHanded : Type 0
