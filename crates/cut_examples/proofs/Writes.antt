@@ -479,7 +479,7 @@ pub new_sums : (header_crc new_fields (page_record 0 0x304) ≡ 0xd61e_00d0) × 
 unfolding header_crc header_bytes page_header_bytes crc32c final_remainder remainder digest reversed
 new_sums = (refl, refl)
 
-new_refusal : encode_check new_fields (page_record 0 0x304) 512 ≡ Ok tt
+pub new_refusal : encode_check new_fields (page_record 0 0x304) 512 ≡ Ok tt
 unfolding encode_check page_header_bytes
 new_refusal = refl
 
@@ -684,7 +684,7 @@ pub next_sums : (header_crc next_fields (page_record 1 1) ≡ 0x1916_772d) × (c
 unfolding header_crc header_bytes page_header_bytes crc32c final_remainder remainder digest reversed
 next_sums = (refl, refl)
 
-next_refusal : encode_check next_fields (page_record 1 1) 512 ≡ Ok tt
+pub next_refusal : encode_check next_fields (page_record 1 1) 512 ≡ Ok tt
 unfolding encode_check page_header_bytes
 next_refusal = refl
 

@@ -1,5 +1,5 @@
 -- The cut theorem is not empty (docs/FORMAT.md, "The sound store and the cut"): six writes to the stores of Stores.antt, one of them to the
--- other operator's page and one to a store whose clean mark is set, cut at twenty-seven places and with four sets of sectors, meet every
+-- other operator's page and one to a store whose clean mark is set, cut at thirty places and with four sets of sectors, meet every
 -- hypothesis of it.
 use Rattle.std.specs.Prelude.{◌≡◌, Bool, true, false, ◌==◌, List, [], ◌∷◌, ℕ, ◌*◌, ◌≤◌, length}
 use Rattle.slot.specs.declared.slot.SlotIndex.{SlotIndex}

@@ -2,3 +2,4 @@ pub mod Steps
 pub mod Healing
 pub mod OlderHeader
 pub mod Life
+pub mod NextWrite

@@ -2,3 +2,4 @@ pub mod States
 pub mod Healing
 pub mod OlderHeader
 pub mod Life
+pub mod NextWrite

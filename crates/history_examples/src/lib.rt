@@ -1,11 +1,13 @@
 // The theorem over histories is not empty: three histories of sound stores. In the first two the write that heals is cut too; no accident
 // happens in the one, and in the other a header stands again, an accident that does no harm. The third is the life of a store, which is
-// closed and opened. What is judged and read back after each step is computed, and not concluded from the theorem. Each function does
-// nothing: its contract is what specs/Healing.antt, specs/OlderHeader.antt and specs/Life.antt say.
+// closed and opened. What is judged and read back after each step is computed, and not concluded from the theorem. What `next_write` promises
+// of cuts is not empty either. Each function does nothing: its contract is what specs/Healing.antt, specs/OlderHeader.antt, specs/Life.antt and
+// specs/NextWrite.antt say.
 #![tactic(auto)]
 
 ghost use Rattle.history_examples.specs.Healing.{HealingReached, HealingStates, HealingNumbers};
 ghost use Rattle.history_examples.specs.Life.{LifeReached, LifeStates, LifeNumbers, LifeClosed};
+ghost use Rattle.history_examples.specs.NextWrite.{PagePlanned, SecondPlanned};
 ghost use Rattle.history_examples.specs.OlderHeader.{OlderHeaderReached, SlotAsAtFirst, StandsByAccident, StandsWithoutHarm, OlderHeaderStates, OlderHeaderNumbers};
 
 // A write is cut in its header, the one that heals after its first sector, and written again it is finished.
@@ -40,4 +42,11 @@ pub fn harmless_accident()
     ensures bytes { SlotAsAtFirst }
     ensures accident { StandsByAccident }
     ensures harmless { StandsWithoutHarm }
+{}
+
+// `next_write` gives two writes of the store that the histories begin with, and its promise holds of ten cuts of them.
+#[tactic(auto, using(crate::proofs::NextWrite::page_planned, crate::proofs::NextWrite::second_planned))]
+pub fn next_writes()
+    ensures page { PagePlanned }
+    ensures second { SecondPlanned }
 {}
