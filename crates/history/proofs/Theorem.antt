@@ -22,7 +22,7 @@ use Rattle.cut.proofs.StateLaws.{sound_won}
 use Rattle.cut.proofs.Theorem.{row_range}
 use Rattle.cut.proofs.RowLaws.{range_kept, rested_stands}
 use Rattle.history.specs.History.{Past, Tracked, past, past_after, pairs, standing, started, record_in, read_mark, Turn, HistoryAccident, HarmfulAccident, write_to, finished, torn_by, Reached, Promised, HistoryTheorem}
-use Rattle.history.specs.Laws.{AnyStoreBegins, AnyWriteAllowed, AnyVolumeWriteAllowed, AnyHealAllowed, AnyCutGoesOn, KnownRecords, ReadIsKnown, Unmarked, TheoremWithoutMark, UnmarkedBegins, UnmarkedFinish, UnmarkedCut, StartMark, FinishedMark, AsWritten, LinkAtMost, FailedPayload, EachStepPromised, OnlyTheWritten, HarmfulAlone, HarmfulIsAccident}
+use Rattle.history.specs.Laws.{AnyStoreBegins, AnyWriteAllowed, AnyVolumeWriteAllowed, AnyHealAllowed, AnyCutGoesOn, KnownRecords, ReadIsKnown, Unmarked, TheoremWithoutMark, UnmarkedBegins, UnmarkedFinish, UnmarkedCut, StartMark, FinishedMark, AsWritten, LinkAtMost, AnyAsWritten, FailedPayload, EachStepPromised, OnlyTheWritten, HarmfulAlone, HarmfulIsAccident}
 use Rattle.history.proofs.States.{Led, Rests, rested, State, pairs_row, flies_stand, all_named, none_named, mark_counted, promised}
 use Rattle.history.proofs.Steps.{start_all, tracked_operator, tracked_known, under_whole, under_kept, finish_state, finish_named, cut_state, cut_named}
 
@@ -184,6 +184,14 @@ module _ (w : Write) (before : Past) where
 
 pub link_at_most : LinkAtMost
 link_at_most w before winner = link_at_most_of w before winner
+
+pub any_as_written : AnyAsWritten
+any_as_written =
+    record {
+      fails = λ w before fails. AsWritten.fails fails;
+      kept = λ w before not_new is stands. AsWritten.kept not_new is stands;
+      whole = λ w before is stands. AsWritten.whole is stands;
+    }
 
 pub failed_payload : FailedPayload
 failed_payload = record { stated = stated; harmful = harmful }

@@ -173,6 +173,13 @@ LinkAtMost =
     (w : Write) (before : Past) (winner : SlotInfo) → AsWritten w before → HistoryAccident w before winner
     → header_crc w.fields w.payload ≡ winner.prev_header_crc32c
 
+-- To be left as it was written no more is asked.
+pub record AnyAsWritten : Type 0 where
+  pub fails : (w : Write) (before : Past) → header_passes (left w) ≡ false → AsWritten w before
+  pub kept : (w : Write) (before : Past) → (take 128 (left w) ≡ take 128 (new w) → ⊥) → take 128 (left w) ≡ take 128 (old w)
+      → standing (left w) ≡ before.under → AsWritten w before
+  pub whole : (w : Write) (before : Past) → take 128 (left w) ≡ take 128 (new w) → standing (left w) ≡ w.payload → AsWritten w before
+
 -- Nor is there one where the header that was left is the one before, the new one or, of those that do harm, the one of the last Valid version,
 -- and the checksum of the payload under it is not the one that it stores.
 pub record FailedPayload : Type 0 where

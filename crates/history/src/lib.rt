@@ -3,7 +3,7 @@
 #![tactic(auto)]
 
 ghost use Rattle.history.specs.History.{HistoryTheorem};
-ghost use Rattle.history.specs.Laws.{AnyStoreBegins, AnyWriteAllowed, AnyVolumeWriteAllowed, AnyHealAllowed, AnyCutGoesOn, EachStepPromised, KnownRecords, ReadIsKnown, TheoremWithoutMark, UnmarkedBegins, UnmarkedFinish, UnmarkedCut, StartMark, FinishedMark, LinkAtMost, FailedPayload, HarmfulAlone, HarmfulIsAccident, OnlyTheWritten, NumbersAnswered, NumbersReached, NumbersOfHistory, AllowedIsPlanned, FreePlanIsAllowed, HealPlanIsAllowed};
+ghost use Rattle.history.specs.Laws.{AnyStoreBegins, AnyWriteAllowed, AnyVolumeWriteAllowed, AnyHealAllowed, AnyCutGoesOn, EachStepPromised, KnownRecords, ReadIsKnown, TheoremWithoutMark, UnmarkedBegins, UnmarkedFinish, UnmarkedCut, StartMark, FinishedMark, LinkAtMost, AnyAsWritten, FailedPayload, HarmfulAlone, HarmfulIsAccident, OnlyTheWritten, NumbersAnswered, NumbersReached, NumbersOfHistory, AllowedIsPlanned, FreePlanIsAllowed, HealPlanIsAllowed};
 
 pub fn history_theorem()
     ensures { HistoryTheorem }
@@ -47,9 +47,10 @@ pub fn without_mark()
 {}
 
 // What is no accident.
-#[tactic(auto, using(crate::proofs::Theorem::failed_payload))]
+#[tactic(auto, using(crate::proofs::Theorem::any_as_written, crate::proofs::Theorem::failed_payload))]
 pub fn no_accident()
     ensures written { LinkAtMost }
+    ensures asked { AnyAsWritten }
     ensures payload { FailedPayload }
 {}
 
