@@ -52,10 +52,9 @@
  *     320   sio_encode sio_region_name_padded
  *     448   sio_header_facts sio_entry_name sio_entry_name_and_kind
  *     512   sio_judge sio_next_write
- *     576   sio_plan_heal
  *     640   sio_validate sio_frame_slot sio_entry_to_raw
  *     704   sio_check_entry
- *     960   sio_winner_payload
+ *     960   sio_winner_payload sio_plan_heal
  *
  * Measured on x86-64 Linux by examples/stack.c: the stack below a call is filled with a byte, and the lowest byte that changes
  * is looked for; then 16 are added and the sum is rounded up to 64. Largest and smallest slots and pages take the same. No

@@ -112,10 +112,6 @@ module _ (ps : List Pair) (clean : Bool) {m : OperatorMaxima} {t : Tally} {volum
   unfolding verdicts
   last-verdicts = rw (by_definition, row-rules)
 
-  pub heal_judged : heals 0 None (last_verdicts rules.volume_demote rules.page_demote (verdicts_by m ps)) ≡ (judgement ps clean).heal
-  unfolding judgement
-  heal_judged = rw (heals-same, last-verdicts)
-
 module _ {C : Type 0} (cell : PairVerdict → C) (read : C → PairVerdict) (back : (v : PairVerdict) → read (cell v) ≡ v) where
   module _ (ps : List Pair) (clean : Bool) {m : OperatorMaxima} {t : Tally} {firsts lasts : List C} {volume : PairVerdict} {rules : StoreRules}
       (range : operators_in_range true ps ≡ true)

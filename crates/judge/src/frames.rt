@@ -20,7 +20,9 @@ use crate::numbers::Maxima;
 use crate::pairs::{Pair, Shown};
 use crate::part::{PART, SlotPart};
 use crate::row::{ReadPair, Verdicts};
-use crate::verdict::{JudgeError, Judgement, PairVerdict, SlotVerdict, Standing, choice_from};
+use crate::verdict::{
+    JudgeError, Judgement, MOST_PAIRS, PairVerdict, SlotVerdict, Standing, choice_from,
+};
 use slot::numbers::choice_number;
 use slot::slot::SlotIndex;
 
@@ -164,6 +166,7 @@ impl Verdicts for VerdictBytes<'_> {
 // Frames, mark and verdicts are three parameters, as in the Rust: a struct of them would be taken apart at once, no plainer.
 //
 // Judges every pair and writes its verdict. `clean` is the volume winner's clean mark, 0 or 1. Nothing is written where there is an error.
+#[inline(always)]
 pub fn judge(frames: &[u8], clean: u8, out: &mut [u8]) -> Result<Judgement, JudgeError>
     ensures value { result ≡ judge_frames frames.now clean (length out.old) }
     ensures out_after { out.new ≡ frames_left frames.now clean out.old }
@@ -199,12 +202,15 @@ pub fn maxima(frames: &[u8], clean: u8, operator: u8) -> Result<Maxima, JudgeErr
     crate::row::maxima(pairs, !rest.is_empty(), clean, operator)
 }
 
-// The slot of such frames that the judge names for healing, and its pair.
+// The slot of such frames that the judge names for healing, and its pair. The verdicts lie on the stack, 448 bytes.
+#[tactic(auto, unfolding(crate::specs::Frames::judge_frames, crate::specs::Frames::frames_error))]
 pub fn heal(frames: &[u8], clean: u8) -> Result<Option<(usize, SlotIndex)>, JudgeError>
     ensures { result ≡ frames_heal frames.now clean }
 {
-    let (pairs, rest) = frames.as_chunks::<FRAME>();
-    crate::row::heal(pairs, !rest.is_empty(), clean)
+    let mut verdicts = [0u8; MOST_PAIRS * VERDICT];
+    let pairs = (frames.len() / FRAME).min(MOST_PAIRS);
+    let judgement = judge(frames, clean, &mut verdicts[..pairs * VERDICT])?;
+    Ok(judgement.heal)
 }
 
 // Does nothing: its contract is that frames which differ in owner generations alone are judged alike, but for whether the winners' differ.

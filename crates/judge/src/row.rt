@@ -12,12 +12,12 @@ ghost use Rattle.judge.specs.Numbers.{number};
 ghost use Rattle.judge.specs.Verdict.{by_index};
 ghost use Rattle.judge.specs.Owners.{owner, owners, any_two_differ};
 ghost use Rattle.judge.specs.Passes.{verdict_by, verdicts_by, no_tally, tallies, heals};
-ghost use Rattle.judge.specs.Judge.{volume_verdict, last_verdicts, judgement, verdicts, row_error, row_in_range, unless};
+ghost use Rattle.judge.specs.Judge.{last_verdicts, judgement, verdicts, row_error, row_in_range, unless};
 
 use crate::numbers::{Maxima, Notes, OperatorMaxima, OwnMaxima};
 use crate::operators;
 use crate::pairs::{Pair, PairCase, Shown};
-use crate::verdict::{JudgeError, Judgement, MOST_PAIRS, PairVerdict, Standing, StoreRules, Tally};
+use crate::verdict::{JudgeError, Judgement, MOST_PAIRS, PairVerdict, StoreRules, Tally};
 use slot::slot::SlotIndex;
 
 // Both slots of one pair, in the form that a caller has.
@@ -109,6 +109,7 @@ fn first<P: ReadPair>(p: &P, maxima: &OperatorMaxima) -> (PairCase, PairVerdict)
 // The pairs and their highest numbers go side by side through the passes: a struct of both would be taken apart in each.
 //
 // Writes each pair's first verdict, and counts over them.
+#[inline(always)]
 fn first_pass<P: ReadPair, V: Verdicts>(pairs: &[P], maxima: &OperatorMaxima, out: &mut V) -> Tally
     requires { length (V.cells out.old) ≡ length pairs.now }
     ensures room { length (V.cells out.new) ≡ length pairs.now }
@@ -126,6 +127,7 @@ fn first_pass<P: ReadPair, V: Verdicts>(pairs: &[P], maxima: &OperatorMaxima, ou
 }
 
 // Makes each first verdict the last one, and answers the write to heal. The volume record has a rule of its own.
+#[inline(always)]
 fn second_pass<V: Verdicts>(
     rules: StoreRules,
     pairs: usize,
@@ -194,6 +196,7 @@ fn owner<P: ReadPair>(p: &P, winner: Option<SlotIndex>) -> Option<u64>
 }
 
 // Whether two winners, any two, have different ones: each is compared with the first.
+#[inline(always)]
 fn owners_differ<P: ReadPair, V: Verdicts>(pairs: &[P], out: &V) -> bool
     requires { length (V.cells out.now) ≡ length pairs.now }
     ensures { result ≡ any_two_differ (owners (map P.shown pairs.now) (map V.read (V.cells out.now))) }
@@ -213,6 +216,7 @@ fn owners_differ<P: ReadPair, V: Verdicts>(pairs: &[P], out: &V) -> bool
 
 // Judges every pair and writes its verdict. `rest`: a part of a pair follows; `clean` is the volume winner's clean mark, 0 or 1. Nothing is
 // written where there is an error.
+#[inline(always)]
 pub(crate) fn judge<P: ReadPair, V: Verdicts>(
     pairs: &[P],
     rest: bool,
@@ -274,57 +278,4 @@ pub(crate) fn two_highest<P: ReadPair>(pairs: &[P], operator: u8) -> Maxima
         own.note(p.operator(), a, b);
     }
     own.maxima
-}
-
-// What the first pass counts.
-fn tally<P: ReadPair>(pairs: &[P], maxima: &OperatorMaxima) -> Tally
-    ensures { result ≡ tallies maxima.now true no_tally (map P.shown pairs.now) }
-{
-    let mut t = Tally::default();
-    for (i, p) in pairs.iter().enumerate() {
-        let (case, v) = first(p, maxima);
-        t.count(i == 0, case, v);
-    }
-    t
-}
-
-// The slot that is in flight after the second pass.
-fn in_flight<P: ReadPair>(
-    pairs: &[P],
-    maxima: &OperatorMaxima,
-    rules: StoreRules,
-) -> Option<(usize, SlotIndex)>
-    ensures { result ≡ heals 0 None (last_verdicts rules.volume_demote rules.page_demote (verdicts_by maxima.now (map P.shown pairs.now))) }
-{
-    let mut heal = None;
-    for (i, p) in pairs.iter().enumerate() {
-        let (_, v) = first(p, maxima);
-        heal = v.demoted_if(rules.demotes(i == 0)).heal_or(i, heal);
-    }
-    heal
-}
-
-// The first verdict on the volume record.
-fn volume_verdict<P: ReadPair>(pairs: &[P], maxima: &OperatorMaxima) -> PairVerdict
-    ensures { result ≡ volume_verdict (verdicts_by maxima.now (map P.shown pairs.now)) }
-{
-    match pairs {
-        [volume, ..] => first(volume, maxima).1,
-        [] => PairVerdict::no_winner(Standing::Lost),
-    }
-}
-
-// The slot that the judge names for healing, where there is room for the verdicts. `rest`: a part of a pair follows; `clean` is the volume
-// winner's clean mark, 0 or 1.
-pub(crate) fn heal<P: ReadPair>(
-    pairs: &[P],
-    rest: bool,
-    clean: u8,
-) -> Result<Option<(usize, SlotIndex)>, JudgeError>
-    ensures { result ≡ unless (row_error (record { pairs = length pairs.now; rest = rest; fits = true; within = nat_le clean 1 && row_in_range P.within P.shown pairs.now })) (judgement (map P.shown pairs.now) (clean == 1)).heal }
-{
-    let mut maxima = OperatorMaxima::new();
-    admit(pairs, rest, clean, true, &mut maxima)?;
-    let rules = tally(pairs, &maxima).rules(clean == 1, volume_verdict(pairs, &maxima));
-    Ok(in_flight(pairs, &maxima, rules))
 }
