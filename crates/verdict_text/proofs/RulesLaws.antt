@@ -1,13 +1,15 @@
 -- The rows are what the definitions compute.
-use Rattle.std.proofs.Common.{◌≡◌, refl, inl, inr, ap, arith, ℕ, zero, suc, ◌+◌, ◌<◌, List, [], ◌∷◌, length, get_or, take, drop, replicate, codes, Some, length-drop, length-take-le}
+use Rattle.std.proofs.Common.{◌≡◌, refl, inl, inr, ap, arith, ℕ, zero, suc, ◌+◌, ◌-◌, ◌^◌, ◌<◌, Ok, List, [], ◌∷◌, length, get_or, take, drop, replicate, codes, Some, length-drop, length-take-le}
 use Rattle.std.proofs.lemmas.List.{length-replicate}
 use Rattle.codec.specs.Bytes.{le}
 use Rattle.hex.specs.Hex.{encode_with, decode_pairs}
 use Rattle.judge.specs.Judge.{first_verdicts, first_tally, row_rules, verdicts, judgement}
 use Rattle.judge.specs.Frames.{frames_error}
 use Rattle.verdict_text.specs.Answer.{judged}
-use Rattle.verdict_text.specs.Calls.{is_interrupted}
-use Rattle.verdict_text.specs.Rules.{MarkRows, LineRows, RangeRows, OrderRows, LengthRows, PrintedRows, PlaceRows, CallRows, OutcomeRows}
+use Rattle.std.specs.declared.io.Error.{Error}
+use Rattle.verdict_text.specs.declared.stream.Calls.{Calls}
+use Rattle.verdict_text.specs.Calls.{is_interrupted, no_calls, noted, AllInterrupted}
+use Rattle.verdict_text.specs.Rules.{after_seven, so_many, MarkRows, LineRows, RangeRows, OrderRows, LengthRows, PrintedRows, PlaceRows, CallRows, OutcomeRows}
 
 pub mark_rows : MarkRows
 unfolding le encode_with decode_pairs first_verdicts first_tally row_rules verdicts judgement frames_error judged
@@ -139,6 +141,10 @@ place_rows =
       all_over = refl;
     }
 
+-- Fewer calls were interrupted than are made.
+few : (calls : Calls) (e : Error) → calls.interrupted < 2 ^ 64 - 1 → AllInterrupted calls e → ⊥
+few calls e less all = omega (arith, all.as_many, less)
+
 pub call_rows : CallRows
 call_rows =
     record {
@@ -150,16 +156,27 @@ call_rows =
       interrupted_more = λ e is. simp is;
       timed_out = λ e is. simp is;
       would_block = λ e is. simp is;
-      nothing_before_a_call = λ e. elim [ inl f ↦ cc | inr t ↦ cc ];
-      nothing_after_a_read = λ n e f. cc;
-      nothing_after_a_write = λ n e. elim [ inl f ↦ cc | inr t ↦ (let none : n + 1 ≡ 0 = cc in absurd (omega arith)) ];
-      no_other_error = λ e f failed. cc;
-      not_the_first_interruption = λ e is failed. let all = failed.retried (ap is_interrupted is) in absurd (omega (arith, all));
-      not_before_the_last = λ e is failed. let all = failed.retried (ap is_interrupted is) in absurd (omega (arith, all));
-      no_write_error_for_nothing = λ e is. elim [ inl f ↦ cc | inr t ↦ cc ];
-      failed_read = λ e is. record { last = refl; retried = λ again. cc };
-      failed_write = λ e is. inl (record { last = refl; retried = λ again. cc });
-      interrupted_each_time = λ e. record { last = refl; retried = λ again. refl };
+      nothing_before_a_call = λ e. elim [ inl (inl f) ↦ cc | inl (inr t) ↦ few no_calls e (omega arith) t | inr t ↦ cc ];
+      nothing_after_a_read = λ n e. elim [ inl f ↦ cc | inr t ↦ few (noted (Ok n) after_seven) e (omega arith) t ];
+      nothing_after_a_write =
+          λ n e. elim [
+            | inl (inl f) ↦ cc
+            | inl (inr t) ↦ few (noted (Ok (n + 1)) after_seven) e (omega arith) t
+            | inr t ↦ (let none : n + 1 ≡ 0 = cc in absurd (omega arith))
+          ];
+      no_other_error = λ e f. elim [ inl failed ↦ cc | inr t ↦ absurd (few (so_many 0 f) e (omega arith) t) ];
+      no_interruption = λ n e f is. elim [ inl failed ↦ (let kind = ap is_interrupted is in cc) | inr t ↦ cc ];
+      not_before_the_last =
+          λ e f is. elim [
+            | inl failed ↦ (let kind = ap is_interrupted is in cc)
+            | inr t ↦ few (so_many (2 ^ 64 - 2) e) f (omega arith) t
+          ];
+      no_write_error_for_nothing =
+          λ e is. elim [ inl (inl f) ↦ cc | inl (inr t) ↦ few (noted (Ok 0) after_seven) e (omega arith) t | inr t ↦ cc ];
+      failed_read = λ e is. inl (record { last = refl; kind = ap is_interrupted is });
+      failed_write = λ e is. inl (inl (record { last = refl; kind = ap is_interrupted is }));
+      interrupted_each_time = λ e f is. inr (record { as_many = omega arith; kind = is });
+      no_other_kind = λ e f is other. elim [ inl failed ↦ cc | inr t ↦ cc ];
       write_of_nothing = λ e is. inr (record { last = refl; kind = is });
     }
 
@@ -202,9 +219,9 @@ outcome_rows =
       no_byte = λ e. (0, omega arith, refl);
       whole_answer = λ e n. let less : 4 < 4 = shorter n.0 (codes "R08\n") (codes "R08\n") n.1 n.2 in absurd (omega arith);
       other_front = λ e n. no_front n.0 (codes "08\n") n.2;
-      no_read_failed = λ e failed. cc;
-      no_write_failed = λ e. elim [ inl f ↦ cc | inr t ↦ cc ];
-      a_write_not_a_read = λ e f failed. cc;
-      a_read_not_a_write = λ e f. elim [ inl f ↦ cc | inr t ↦ cc ];
-      its_error = λ e f failed. cc;
+      no_read_failed = λ e. elim [ inl f ↦ cc | inr t ↦ few no_calls e (omega arith) t ];
+      no_write_failed = λ e. elim [ inl (inl f) ↦ cc | inl (inr t) ↦ few no_calls e (omega arith) t | inr t ↦ cc ];
+      a_write_not_a_read = λ e f. elim [ inl failed ↦ cc | inr t ↦ few no_calls e (omega arith) t ];
+      a_read_not_a_write = λ e f. elim [ inl (inl failed) ↦ cc | inl (inr t) ↦ few no_calls e (omega arith) t | inr t ↦ cc ];
+      its_error = λ e f. elim [ inl failed ↦ cc | inr t ↦ absurd (few (so_many 0 f) e (omega arith) t) ];
     }

@@ -4,6 +4,7 @@
 use Rattle.std.specs.Prelude.{◌≡◌, ⊤, Bool, false, if◌then◌else◌, ◌||◌, nat_lt, List, ℕ, ◌*◌, ◌<◌, length, take, drop, Option, Some, None, Result, Ok, Err, IfSome}
 use Rattle.std.specs.Int.{from_bool}
 use Rattle.std.specs.Io.KnownBytes.{Keeps, Appends}
+use Rattle.std.specs.declared.io.Error.{Error}
 use Rattle.judge.specs.declared.verdict.Judgement.{Judgement}
 use Rattle.judge.specs.declared.verdict.JudgeError.{JudgeError}
 use Rattle.judge.specs.Judge.{verdicts, judgement}
@@ -81,6 +82,11 @@ abbrev pub Written : {T : Type 0} → Option (List ℕ) → Option (List ℕ) �
 Written text old new (Ok done) = IfSome text (λ s. Appends old new (answer_text s))
 Written text old new (Err (AnswerError.Read error)) = Keeps old new
 Written text old new (Err (AnswerError.Write error)) = IfSome text (λ s. AppendsFront old new (answer_text s))
+
+-- What an error was made of.
+abbrev pub cause : AnswerError → Error
+cause (AnswerError.Read error) = error
+cause (AnswerError.Write error) = error
 
 -- An error is that of the last read or write, by what the reader's and the writer's calls answered.
 abbrev pub Reported : {T : Type 0} → Calls → Calls → Result T AnswerError → Type 0

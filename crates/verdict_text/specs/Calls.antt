@@ -1,5 +1,5 @@
 -- What is noted of the calls of a reader or of a writer, and which error is reported of them (docs/FORMAT.md, "The program verdicts").
-use Rattle.std.specs.Prelude.{◌≡◌, ◌⊎◌, Bool, true, false, if◌then◌else◌, ℕ, ◌+◌, ◌-◌, ◌^◌, min, Some, None, Result, Ok, Err}
+use Rattle.std.specs.Prelude.{◌≡◌, ◌⊎◌, Bool, true, false, if◌then◌else◌, ℕ, ◌+◌, ◌-◌, ◌^◌, ◌≤◌, min, Some, None, Result, Ok, Err}
 use Rattle.std.specs.declared.io.Error.{Error}
 use Rattle.std.specs.declared.io.ErrorKind.{ErrorKind}
 use Rattle.std.specs.IoError.{error_kind}
@@ -25,10 +25,18 @@ noted answer calls =
       interrupted = if is_interruption answer then min (calls.interrupted + 1) (2 ^ 64 - 1) else 0;
     }
 
--- The last call failed with e. Where a signal interrupted it, so were all calls before it, as many as are made.
-pub record Failed (calls : Calls) (e : Error) : Type 0 where
+-- The last call failed with e, and no signal interrupted it.
+pub record LastFailed (calls : Calls) (e : Error) : Type 0 where
   pub last : calls.last ≡ Some (Err e)
-  pub retried : is_interrupted (error_kind e) ≡ true → calls.interrupted ≡ 2 ^ 64 - 1
+  pub kind : is_interrupted (error_kind e) ≡ false
+
+-- A signal interrupted as many calls as are made, one after the other.
+pub record AllInterrupted (calls : Calls) (e : Error) : Type 0 where
+  pub as_many : 2 ^ 64 - 1 ≤ calls.interrupted
+  pub kind : error_kind e ≡ ErrorKind.TimedOut
+
+abbrev pub Failed : Calls → Error → Type 0
+Failed calls e = LastFailed calls e ⊎ AllInterrupted calls e
 
 -- The last write took none of the bytes.
 pub record TookNothing (calls : Calls) (e : Error) : Type 0 where

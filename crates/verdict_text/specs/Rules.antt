@@ -267,12 +267,13 @@ pub record CallRows : Type 0 where
   pub nothing_after_a_read : (n : ℕ) (e : Error) → Failed (noted (Ok n) after_seven) e → ⊥
   pub nothing_after_a_write : (n : ℕ) (e : Error) → WriteFailed (noted (Ok (n + 1)) after_seven) e → ⊥
   pub no_other_error : (e f : Error) → Failed (so_many 0 f) e → e ≡ f
-  pub not_the_first_interruption : (e : Error) → error_kind e ≡ ErrorKind.Interrupted → Failed (so_many 1 e) e → ⊥
-  pub not_before_the_last : (e : Error) → error_kind e ≡ ErrorKind.Interrupted → Failed (so_many (2 ^ 64 - 2) e) e → ⊥
+  pub no_interruption : (n : ℕ) (e f : Error) → error_kind f ≡ ErrorKind.Interrupted → Failed (so_many n e) f → ⊥
+  pub not_before_the_last : (e f : Error) → error_kind e ≡ ErrorKind.Interrupted → Failed (so_many (2 ^ 64 - 2) e) f → ⊥
   pub no_write_error_for_nothing : (e : Error) → error_kind e ≡ ErrorKind.TimedOut → WriteFailed (noted (Ok 0) after_seven) e → ⊥
   pub failed_read : (e : Error) → error_kind e ≡ ErrorKind.TimedOut → Failed (so_many 0 e) e
   pub failed_write : (e : Error) → error_kind e ≡ ErrorKind.TimedOut → WriteFailed (so_many 0 e) e
-  pub interrupted_each_time : (e : Error) → Failed (so_many (2 ^ 64 - 1) e) e
+  pub interrupted_each_time : (e f : Error) → error_kind f ≡ ErrorKind.TimedOut → Failed (so_many (2 ^ 64 - 1) e) f
+  pub no_other_kind : (e f : Error) → error_kind e ≡ ErrorKind.Interrupted → error_kind f ≡ ErrorKind.WouldBlock → Failed (so_many (2 ^ 64 - 1) e) f → ⊥
   pub write_of_nothing : (e : Error) → error_kind e ≡ ErrorKind.WriteZero → WriteFailed (noted (Ok 0) after_seven) e
 
 -- ---- each outcome

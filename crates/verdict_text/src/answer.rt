@@ -1,12 +1,13 @@
 // The answer to a text, and reading the one and writing the other.
-ghost use Rattle.std.specs.Prelude.{◌≡◌, ◌+◌, ◌*◌, ◌≤◌, length, take, Some, IfOk, IfErr, MatchResult};
+ghost use Rattle.std.specs.Prelude.{◌≡◌, ◌≢◌, ◌+◌, ◌*◌, ◌≤◌, length, take, Some, Ok, IfOk, IfErr, MatchResult};
+ghost use Rattle.std.specs.IoError.{error_kind};
 ghost use Rattle.std.specs.Io.{ReadsAtMost, WritesAtMost};
 ghost use Rattle.std.specs.Io.KnownBytes.{Appends, ReadConsumes, WriteAppends};
 ghost use Rattle.judge.specs.Judge.{most_pairs};
 ghost use Rattle.judge.specs.Frames.{verdict_width};
 ghost use Rattle.verdict_text.specs.Write.{verdict_line, last_line, over};
 ghost use Rattle.verdict_text.specs.Calls.{Failed, WriteFailed};
-ghost use Rattle.verdict_text.specs.Answer.{refusal_number, is_long, judged, response_text, Left, Written, Reported, LosesFewer, AppendsFront};
+ghost use Rattle.verdict_text.specs.Answer.{refusal_number, is_long, judged, response_text, Left, Written, Reported, cause, LosesFewer, AppendsFront};
 ghost use Rattle.verdict_text.specs.Steps.{Fills, Reads};
 
 use crate::read::{FRAMES, read_store};
@@ -72,12 +73,13 @@ impl fmt::Display for AnswerError {
 }
 
 /// Writes the answer to the text that `source` has left. Of a longer text the byte past the longest is read, and none after it. A call that
-/// a signal interrupts is made again, and a write that takes nothing is a failure. An error is one that a call answered: no memory is
-/// asked for, and nothing else can fail.
+/// a signal interrupts is made again, and a write that takes nothing is a failure. An error is one that a call answered, or `TimedOut` where a
+/// signal interrupted 2^64 - 1 calls in a row: no memory is asked for, and nothing else can fail.
 pub fn answer<S: Source, K: Sink>(source: &mut S, sink: &mut K) -> Result<(), AnswerError>
     ensures left { Left (S.remaining source.old) (S.remaining source.new) result }
     ensures written { Written (S.remaining source.old) (K.contents sink.old) (K.contents sink.new) result }
     ensures reported { Reported (S.calls source.new) (K.calls sink.new) result }
+    ensures retried { IfErr result (λ e. error_kind (cause e) ≢ ErrorKind.Interrupted) }
 {
     let mut text = [0u8; LONGEST];
     let (held, more) = match read_text(source, &mut text) {
@@ -135,13 +137,13 @@ fn read_some<S: Source>(source: &mut S, buffer: &mut [u8]) -> io::Result<usize>
     ensures bytes { ReadConsumes (S.remaining source.old) (S.remaining source.new) result buffer.new }
     ensures failed { IfErr result (λ e. Failed (S.calls source.new) e) }
 {
-    for _ in 1..u64::MAX {
+    for _ in 0..u64::MAX {
         let answer = source.read(buffer);
         if !is_interruption(&answer) {
             return answer;
         }
     }
-    source.read(buffer)
+    Err(ErrorKind::TimedOut.into())
 }
 
 // Writes all of `bytes`.
@@ -164,16 +166,16 @@ fn put<K: Sink>(sink: &mut K, bytes: &[u8]) -> io::Result<()>
 fn write_some<K: Sink>(sink: &mut K, bytes: &[u8]) -> io::Result<usize>
     ensures bound { WritesAtMost result bytes.now }
     ensures bytes { WriteAppends (K.contents sink.old) (K.contents sink.new) result bytes.now }
-    ensures noted { (K.calls sink.new).last ≡ Some result }
+    ensures noted { IfOk result (λ n. (K.calls sink.new).last ≡ Some (Ok n)) }
     ensures failed { IfErr result (λ e. Failed (K.calls sink.new) e) }
 {
-    for _ in 1..u64::MAX {
+    for _ in 0..u64::MAX {
         let answer = sink.write(bytes);
         if !is_interruption(&answer) {
             return answer;
         }
     }
-    sink.write(bytes)
+    Err(ErrorKind::TimedOut.into())
 }
 
 /// Writes the answer to a text to the start of `response`, and tells how many bytes it has; the bytes after it stay. `more`: whether others

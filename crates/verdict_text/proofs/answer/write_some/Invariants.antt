@@ -5,4 +5,4 @@ use Rattle.verdict_text.proofs.answer.write_some.Given as goal
 
 abbrev pub invariant-loop : goal.invariant-loop
 invariant-loop g l =
-    Keeps (g.K.Sink.contents l.initial.sink) (g.K.Sink.contents l.sink) × (l.counter - 1 ≤ (g.K.Sink.calls l.sink).interrupted)
+    Keeps (g.K.Sink.contents l.initial.sink) (g.K.Sink.contents l.sink) × (l.counter ≤ (g.K.Sink.calls l.sink).interrupted)
