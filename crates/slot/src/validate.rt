@@ -9,6 +9,7 @@ use crate::slot::{
     CRC_END, CRC_START, Expect, FORMAT_1, FORMAT_2, HEADER_LEN, HeaderFacts, MAGIC,
     MAX_LOG2_SLOT_SIZE, MIN_LOG2_SLOT_SIZE, NumberedHeader, SLOT_COUNT, SlotInfo, SlotStatus,
 };
+use codec::codec::all_zero;
 use codec::crc32c::{crc32c, crc32c_gap};
 
 // Validates one slot read from `e.slot_offset`. Bytes and what is expected of them are two arguments, as in the Rust: a struct of both
@@ -223,5 +224,5 @@ fn is_blank(slot: &[u8]) -> bool
     requires { 128 ≤ length slot.now }
     ensures { result ≡ is_blank slot.now }
 {
-    slot[..HEADER_LEN].iter().all(|&b| b == 0)
+    all_zero(&slot[..HEADER_LEN])
 }
