@@ -228,6 +228,10 @@ page_write_rows =
       count_first = refl;
       most = λ es is. rw is refl;
       too_many = λ es is. rw is refl;
+      bytes = refl;
+      no_bytes = refl;
+      rests = refl;
+      rest_first = refl;
     }
 
 pub entry_rows : EntryRows

@@ -1,5 +1,5 @@
 -- Table pages (docs/FORMAT.md, "Pages" and "Refusals"): the header, the checks in their order, and the bytes as they are written.
-use Rattle.std.specs.Prelude.{◌≡◌, Bool, false, not, ◌||◌, ℕ, ◌+◌, ◌*◌, ◌/◌, ◌^◌, ◌≤◌, ◌<◌, ◌==◌, nat_lt, nat_le, if◌then◌else◌, List, [], ◌∷◌, ◌++◌, length, take, drop, map, replicate, slice_index, Option, Some, None, Result, Ok, Err}
+use Rattle.std.specs.Prelude.{◌≡◌, Bool, false, not, ◌||◌, ℕ, ◌+◌, ◌*◌, ◌/◌, ◌%◌, ◌^◌, ◌≤◌, ◌<◌, ◌==◌, nat_lt, nat_le, if◌then◌else◌, List, [], ◌∷◌, ◌++◌, length, take, drop, map, replicate, slice_index, Option, Some, None, Result, Ok, Err}
 use Rattle.std.specs.Borrow.{Bor}
 use Rattle.std.specs.Int.{w16, w32, to_le_bytes}
 use Rattle.std.specs.List.{concat, list_all, list_any, flat_map}
@@ -103,6 +103,10 @@ encode_page h es out =
     else if not (length es == h.count) then (out, refused Field.Count)
     else if nat_lt (length out) (24 + length es * 96) then (out, Err MetaError.Length)
     else (page_bytes h es ++ drop (24 + length es * 96) out, Ok (24 + length es * 96))
+
+-- The same of the entries in these bytes: 11 for a rest below 96 bytes, before all else.
+abbrev pub encode_entries : PageHeader → List ℕ → List ℕ → List ℕ × Result ℕ MetaError
+encode_entries h s out = if length s % 96 == 0 then encode_page h (parts s) out else (out, Err MetaError.Length)
 
 -- ---- both
 

@@ -23,7 +23,7 @@ use Rattle.meta.specs.Base.{decode_base, encode_base}
 use Rattle.meta.specs.Volume.{decode_volume, encode_volume, table_end, check_file_len}
 use Rattle.meta.specs.Entry.{read_entry, write_entry, name_and_kind, reserved_span, to_raw}
 use Rattle.meta.specs.Check.{check_entry}
-use Rattle.meta.specs.Page.{parts, decode_page, encode_page}
+use Rattle.meta.specs.Page.{parts, decode_page, encode_page, encode_entries}
 use Rattle.meta.specs.Table.{answer, field, base, volume, base_with, volume_with, entry, entry_record, limits}
 
 -- ---- bytes
@@ -443,6 +443,13 @@ pub record PageWriteRows : Type 0 where
   -- 65,535 entries are not too many: of another count they are 30. One more are, before the count is looked at.
   pub most : (es : List (List ℕ)) → length es ≡ 65535 → (encode_page (header_of 9 65534) es []).1 ≡ Err (field Field.Count)
   pub too_many : (es : List (List ℕ)) → length es ≡ 65536 → (encode_page (header_of 9 65535) es []).1 ≡ Err MetaError.Length
+  -- Entries as bytes: a rest of 1 to 95 of them is refused, before the count and the buffer. The buffer is kept.
+  pub bytes : encode_entries (header_of 0 2) (up 0 96 ++ replicate 96 7) (replicate 217 1)
+      ≡ (up 0 4 ++ 0 ∷ 0 ∷ 0 ∷ 0 ∷ 2 ∷ replicate 15 0 ++ up 0 38 ++ 0 ∷ 0 ∷ up 40 56 ++ replicate 38 7 ++ 0 ∷ 0 ∷ replicate 56 7 ++ 1 ∷ [], Ok 216)
+  pub no_bytes : encode_entries (header_of 9 0) [] (replicate 24 1) ≡ encode_page (header_of 9 0) [] (replicate 24 1)
+  pub rests : map (λ n. answer (encode_entries (header_of 9 1) (replicate n 7) (replicate 120 1)).1) (0 ∷ 1 ∷ 95 ∷ 96 ∷ 97 ∷ 191 ∷ 192 ∷ 193 ∷ [])
+      ≡ 30 ∷ 11 ∷ 11 ∷ 0 ∷ 11 ∷ 11 ∷ 30 ∷ 11 ∷ []
+  pub rest_first : encode_entries (header_of 9 2) (replicate 97 7) (replicate 23 1) ≡ (replicate 23 1, Err MetaError.Length)
 
 -- ---- entries
 

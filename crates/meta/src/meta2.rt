@@ -51,7 +51,7 @@ ghost use Rattle.meta.specs.Entry.{read_entry, entry_row, write_entry, name_and_
 ghost use Rattle.meta.specs.Check.{check_span, check_header, check_footprint, check_content, check_sizes, check_entry, EntriesBack};
 ghost use Rattle.meta.specs.Table.{Table};
 ghost use Rattle.meta.specs.Rules.{NameRows, Utf8Rows, SizeRows, BaseRows, VolumeRows, TableRows, PageRows, PageEntryRows, PageWriteRows, EntryRows, CheckRows, OrderRows, SpanRows};
-ghost use Rattle.meta.specs.Page.{header_at, decode_page, Gives, parts, entries, seq, shares, check_own, check_entries, header_row, stored_part, encode_page, HeaderLayout, PagesBack, NamesIgnored};
+ghost use Rattle.meta.specs.Page.{header_at, decode_page, Gives, parts, entries, seq, shares, check_own, check_entries, header_row, stored_part, encode_page, encode_entries, HeaderLayout, PagesBack, NamesIgnored};
 
 use crate::meta::{
     Field, MAX_LOG2_BLOCK, MIN_LOG2_BLOCK, MetaError, NAME_MAX, RegionKind, RegionName,
@@ -860,6 +860,17 @@ pub fn encode_page(
     };
     write_entries(&mut out[PAGE_HEADER_LEN..len], entries);
     Ok(len)
+}
+
+/// Encodes a page of the entries in these bytes, 96 each, as [`encode_page`] does. A rest below 96 bytes is refused before all else.
+pub fn encode_entries(out: &mut [u8], h: &PageHeader, entries: &[u8]) -> Result<usize, MetaError>
+    ensures { (out.new, result) ≡ encode_entries h.now entries.now out.old }
+{
+    let (entries, rest) = entries.as_chunks::<ENTRY2_LEN>();
+    if !rest.is_empty() {
+        return Err(MetaError::Length);
+    }
+    encode_page(out, h, entries)
 }
 
 // By index: of what a slice ends as, `chunks_mut` and `as_chunks_mut` say nothing, and over them the proof did not close.

@@ -1,12 +1,11 @@
 -- What a C host finds of metadata (docs/FORMAT.md, "The C interface"): rows of numbers in the layout's order, and names with their length.
-use Rattle.std.specs.Prelude.{List, [], ◌∷◌, ◌++◌, ℕ, ◌*◌, ◌%◌, ◌==◌, if◌then◌else◌, length, replicate, Option, Some, None, Result, Err}
+use Rattle.std.specs.Prelude.{List, [], ◌∷◌, ◌++◌, ℕ, ◌*◌, replicate, Option, Some, None, Result}
 use Rattle.std.specs.Int.{from_bool}
 use Rattle.meta.specs.Check.{check_entry}
 use Rattle.meta.specs.Entry.{read_entry, entry_bytes, to_raw, name_and_kind, reserved_span}
 use Rattle.meta.specs.Error.{◌>>=◌}
 use Rattle.meta.specs.Kind.{kind_number}
 use Rattle.meta.specs.Name.{name_in}
-use Rattle.meta.specs.Page.{parts, encode_page}
 use Rattle.meta.specs.declared.meta.MetaError.{MetaError}
 use Rattle.meta.specs.declared.meta.RegionKind.{RegionKind}
 use Rattle.meta.specs.declared.meta.RegionName.{RegionName}
@@ -32,10 +31,6 @@ volume_values v = base_values v.base ++ v.table_pages ∷ v.entries_per_page ∷
 -- Index, next seq and count, then the start and the length of the entries.
 abbrev pub page_values : PageHeader → List ℕ
 page_values h = h.page_index ∷ h.next_seq ∷ h.count ∷ 24 ∷ h.count * 96 ∷ []
-
--- A page of the entries in these bytes: 11 for a rest below 96 bytes.
-abbrev pub encode_entries : PageHeader → List ℕ → List ℕ → List ℕ × Result ℕ MetaError
-encode_entries h s out = if length s % 96 == 0 then encode_page h (parts s) out else (out, Err MetaError.Length)
 
 -- ---- names
 

@@ -15,12 +15,13 @@ use Rattle.meta.specs.declared.meta.RegionName.{RegionName}
 use Rattle.meta.specs.declared.meta2.VolumeMeta2.{VolumeMeta2}
 use Rattle.meta.specs.declared.meta2.RawEntry.{RawEntry}
 use Rattle.meta.specs.declared.meta2.Entry2.{Entry2}
+use Rattle.meta.specs.Page.{encode_entries}
 use Rattle.store_io.specs.Arguments.{volume_id, index_of, is_yes, expect_of, fields_of, valid_of, base_of, volume_of, table_of, page_of, raw_of, limits_of}
 use Rattle.store_io.specs.Slots.{status_answer, facts_answer}
 use Rattle.store_io.specs.Pairs.{report_bytes, decide_answer}
 use Rattle.store_io.specs.Winners.{pair_of, winner_answer}
 use Rattle.store_io.specs.Judging.{judgement_values}
-use Rattle.store_io.specs.Metadata.{volume_values, page_values, encode_entries, name_or_zeros, raw_found, entry_found, both_or_zeros, span_values}
+use Rattle.store_io.specs.Metadata.{volume_values, page_values, name_or_zeros, raw_found, entry_found, both_or_zeros, span_values}
 
 -- ---- what a number stands for
 

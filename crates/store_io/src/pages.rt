@@ -1,14 +1,13 @@
 // Table pages for C hosts.
 ghost use Rattle.std.specs.Prelude.{◌≡◌};
 ghost use Rattle.meta.specs.Error.{number};
-ghost use Rattle.meta.specs.Page.{decode_page};
+ghost use Rattle.meta.specs.Page.{decode_page, encode_entries};
 ghost use Rattle.store_io.specs.Arguments.{page_of};
 ghost use Rattle.store_io.specs.Host.{answer, encoded};
-ghost use Rattle.store_io.specs.Metadata.{page_values, encode_entries};
+ghost use Rattle.store_io.specs.Metadata.{page_values};
 
 use crate::answers::give;
-use meta::meta::MetaError;
-use meta::meta2::{ENTRY2_LEN, PAGE_HEADER_LEN, PageHeader, decode_page, encode_page};
+use meta::meta2::{ENTRY2_LEN, PAGE_HEADER_LEN, PageHeader, decode_page, encode_entries};
 
 // Decodes a page.
 #[unsafe(no_mangle)]
@@ -60,9 +59,5 @@ pub extern "C" fn sio_encode_page(
         next_seq,
         count,
     };
-    let (entries, rest) = entries.as_chunks::<ENTRY2_LEN>();
-    if !rest.is_empty() {
-        return u32::from(MetaError::Length.number());
-    }
-    give(encode_page(bytes, &header, entries), written)
+    give(encode_entries(bytes, &header, entries), written)
 }
