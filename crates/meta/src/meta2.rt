@@ -692,11 +692,18 @@ pub struct Page<'a> {
 }
 
 impl<'a> Page<'a> {
+    /// The entries' bytes as they are stored: the very part that the page has, and no copy.
+    pub fn stored(&self) -> &'a [u8]
+        ensures { result ≡ self.now.entries }
+    {
+        self.entries
+    }
+
     /// The entries in stored order, 96 bytes each.
     pub fn entries(&self) -> &'a [[u8; ENTRY2_LEN]]
         ensures { result.now ≡ parts self.now.entries.now }
     {
-        let (entries, _) = self.entries.as_chunks::<ENTRY2_LEN>();
+        let (entries, _) = self.stored().as_chunks::<ENTRY2_LEN>();
         entries
     }
 }
