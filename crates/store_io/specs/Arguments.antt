@@ -1,11 +1,13 @@
 -- What the numbers of a C host stand for (docs/FORMAT.md, "The C interface"): the volume id is two u64s, its first eight bytes in the
 -- first; any index but 0 is B, any `numbered` or clean mark but 0 is yes.
-use Rattle.std.specs.Prelude.{Bool, false, not, List, ◌++◌, ℕ, ◌==◌, if◌then◌else◌}
+use Rattle.std.specs.Prelude.{Bool, false, not, List, ◌++◌, ℕ, ◌==◌, if◌then◌else◌, unwrap_or}
 use Rattle.std.specs.Int.{w64, to_le_bytes}
 use Rattle.slot.specs.declared.slot.SlotIndex.{SlotIndex}
 use Rattle.slot.specs.declared.slot.SlotFields.{SlotFields}
 use Rattle.slot.specs.declared.slot.Expect.{Expect}
 use Rattle.slot.specs.declared.slot.SlotInfo.{SlotInfo}
+use Rattle.slot.specs.declared.slot.SlotStatus.{SlotStatus}
+use Rattle.slot.specs.Numbers.{status_of}
 use Rattle.meta.specs.declared.meta.VolumeMeta.{VolumeMeta}
 use Rattle.meta.specs.declared.meta2.VolumeMeta2.{VolumeMeta2}
 use Rattle.meta.specs.declared.meta2.PageHeader.{PageHeader}
@@ -67,6 +69,10 @@ valid_of generation own prev =
       payload_start = 0;
       payload_len = 0;
     }
+
+-- The status with a number from 0 to 11; from 12 on a valid slot with these facts.
+abbrev pub status_or_valid : ℕ → ℕ → ℕ → ℕ → SlotStatus
+status_or_valid c generation own prev = unwrap_or (status_of c (valid_of generation own prev)) (SlotStatus.Valid (valid_of generation own prev))
 
 -- ---- metadata
 

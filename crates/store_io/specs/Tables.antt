@@ -16,7 +16,7 @@ use Rattle.meta.specs.declared.meta2.VolumeMeta2.{VolumeMeta2}
 use Rattle.meta.specs.declared.meta2.RawEntry.{RawEntry}
 use Rattle.meta.specs.declared.meta2.Entry2.{Entry2}
 use Rattle.meta.specs.Page.{encode_entries}
-use Rattle.store_io.specs.Arguments.{volume_id, index_of, is_yes, expect_of, fields_of, valid_of, base_of, volume_of, table_of, page_of, raw_of, limits_of}
+use Rattle.store_io.specs.Arguments.{volume_id, index_of, is_yes, expect_of, fields_of, valid_of, status_or_valid, base_of, volume_of, table_of, page_of, raw_of, limits_of}
 use Rattle.store_io.specs.Slots.{status_answer, facts_answer}
 use Rattle.store_io.specs.Pairs.{report_bytes, decide_answer}
 use Rattle.store_io.specs.Winners.{pair_of, winner_answer}
@@ -49,6 +49,9 @@ ArgumentPlaces =
     × (slot_written.log2_slot_size ∷ slot_written.prev_header_crc32c ∷ slot_written.format_major ∷ slot_written.meta_seq ∷ slot_written.compat_flags ∷ [] ≡ 8 ∷ 9 ∷ 10 ∷ 11 ∷ 12 ∷ [])
     × (slot_written.slot_index ≡ SlotIndex.B)
     × ((valid_of 1 2 3).generation ∷ (valid_of 1 2 3).header_crc32c ∷ (valid_of 1 2 3).prev_header_crc32c ∷ [] ≡ 1 ∷ 2 ∷ 3 ∷ [])
+    × (status_or_valid 11 1 2 3 ≡ SlotStatus.BadPayloadCrc)
+    × (status_or_valid 12 1 2 3 ≡ SlotStatus.Valid (valid_of 1 2 3))
+    × (status_or_valid 13 1 2 3 ≡ SlotStatus.Valid (valid_of 1 2 3))
     × (pair_of (9 ∷ []) (10 ∷ []) 1 2 3 4 5 6 7 8 ≡ read_pair (9 ∷ []) (expect_of 1 2 3 4 0 6 7 8) (10 ∷ []) (expect_of 1 2 3 5 1 6 7 8))
 
 -- ---- slots and pairs

@@ -1,8 +1,8 @@
 // What the numbers of a C host stand for: the volume id is two of them, any index but 0 is B, any `numbered` but 0 is yes.
 ghost use Rattle.std.specs.Prelude.{◌≡◌};
-ghost use Rattle.store_io.specs.Arguments.{volume_id, index_of, expect_of, valid_of};
+ghost use Rattle.store_io.specs.Arguments.{volume_id, index_of, expect_of, valid_of, status_or_valid};
 
-use slot::slot::{Expect, SlotIndex, SlotInfo};
+use slot::slot::{Expect, SlotIndex, SlotInfo, SlotStatus};
 
 // The volume id's first eight bytes are in the first number.
 #[tactic(auto, unfolding(crate::specs::Arguments::volume_id))]
@@ -65,4 +65,17 @@ pub fn valid_of(generation: u64, header_crc32c: u32, prev_header_crc32c: u32) ->
         payload_start: 0,
         payload_len: 0,
     }
+}
+
+// The status with a number, where any number above 11 is a valid slot's. `sio_decide` refuses one above 12, and asks `from_code`.
+pub fn status_of(
+    code: u32,
+    generation: u64,
+    header_crc32c: u32,
+    prev_header_crc32c: u32,
+) -> SlotStatus
+    ensures { result ≡ status_or_valid code generation header_crc32c prev_header_crc32c }
+{
+    let info = valid_of(generation, header_crc32c, prev_header_crc32c);
+    SlotStatus::from_code(code, info).unwrap_or(SlotStatus::Valid(info))
 }
