@@ -1,5 +1,5 @@
 -- A text as it is judged: refused by its length or by its lines, or by the judge of its frames.
-use Rattle.std.proofs.Common.{◌≡◌, refl, sym, ap, ap₂, ◌∙◌, Bool, true, false, ◌==◌, ℕ, ◌*◌, ◌≤◌, ◌<◌, arith, List, length, take, length-take-le, Option, Some, None, Ok, Err}
+use Rattle.std.proofs.Common.{◌≡◌, refl, sym, ap, ap₂, ◌∙◌, Bool, true, false, ◌==◌, ℕ, ◌*◌, ◌≤◌, ◌<◌, arith, le-leb, List, length, take, length-take-le, Option, Some, None, Ok, Err}
 use Rattle.std.proofs.lemmas.List.{take_all}
 use Rattle.std.specs.Int.{from_bool}
 use Rattle.judge.specs.declared.verdict.Judgement.{Judgement}
@@ -10,7 +10,9 @@ use Rattle.judge.proofs.FrameLaws.{too_many}
 use Rattle.verdict_text.specs.declared.answer.Refusal.{Refusal}
 use Rattle.verdict_text.specs.Read.{store_in}
 use Rattle.verdict_text.specs.Steps.{Holds}
-use Rattle.verdict_text.specs.Answer.{unless_refused, judged_frames, judged_store, is_long, judged}
+use Rattle.verdict_text.specs.Write.{judgement_text, written, written_over}
+use Rattle.verdict_text.specs.Answer.{unless_refused, judged_frames, judged_store, is_long, judged, response_text, response_room, response_length, response_over}
+use Rattle.verdict_text.proofs.WriteLaws.{front_over, fits, judgement_length}
 
 module _ (text : List ℕ) (more : Bool) where
   pub long_text : is_long (length text) more ≡ true → judged text more ≡ Err Refusal.LongText
@@ -20,6 +22,21 @@ module _ (text : List ℕ) (more : Bool) where
   pub fitting_text : is_long (length text) more ≡ false → judged text more ≡ judged_store (store_in text)
   unfolding judged
   fitting_text fits = rw fits
+
+-- The text of a judgement is written to a buffer that has the room of the longest answer.
+module _ (text : List ℕ) (more : Bool) (buffer : List ℕ) (room : response_room ≤ length buffer) where
+  pub judgement_fits : (verdicts : List ℕ) (j : Judgement) → judged text more ≡ Ok (verdicts, j) → length verdicts ≤ most_pairs * verdict_width
+      → (written (judgement_text verdicts j) buffer ≡ response_length text more buffer) × (written_over (judgement_text verdicts j) buffer ≡ response_over text more buffer)
+  judgement_fits verdicts j is few =
+      let whole = fits (judgement_text verdicts j) buffer (omega (arith, judgement_length verdicts j, few, room)) in
+      (rw (is, le-leb _ _ room) whole.0, rw (is, le-leb _ _ room) whole.1)
+
+-- In a buffer that has this room the answer stands at the start.
+pub response_front : (text : List ℕ) (more : Bool) (new buffer : List ℕ) (n : ℕ) → Some n ≡ response_length text more buffer → new ≡ response_over text more buffer
+    → response_room ≤ length buffer → take n new ≡ response_text text more
+response_front text more new buffer n size after room =
+    let same : Some n ≡ Some (length (response_text text more)) = rw (le-leb _ _ room) at size in
+    front_over (response_text text more) new buffer n (grind (arith, same)) (rw (le-leb _ _ room) at after)
 
 -- ---- the frames that are held
 

@@ -134,11 +134,24 @@ printed_rows =
     }
 
 pub place_rows : PlaceRows
+unfolding le encode_with decode_pairs first_verdicts first_tally row_rules verdicts judgement frames_error judged
 place_rows =
     record {
       rest_kept = refl;
       nothing_over = refl;
       all_over = refl;
+      room = refl;
+      more_room = refl;
+      no_room = refl;
+      longest = refl;
+      no_room_for_longest = refl;
+      refusals = refl;
+      rest_of_refusal = refl;
+      no_refusal = refl;
+      judgement = refl;
+      rest_of_judgement = refl;
+      no_judgement = refl;
+      part_of_a_verdict = refl;
     }
 
 -- Fewer calls were interrupted than are made.

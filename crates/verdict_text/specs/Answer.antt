@@ -1,13 +1,13 @@
 -- What program `verdicts` answers to a text (docs/FORMAT.md, "The program verdicts"), what it leaves of the text that a reader has, and
 -- what it adds to the bytes that a writer holds. Readers and writers in memory say what they have and hold; of others these facts claim
 -- nothing.
-use Rattle.std.specs.Prelude.{◌≡◌, ⊤, Bool, false, if◌then◌else◌, ◌||◌, nat_lt, List, ℕ, ◌*◌, ◌<◌, length, take, drop, Option, Some, None, Result, Ok, Err, IfSome}
+use Rattle.std.specs.Prelude.{◌≡◌, ⊤, Bool, false, if◌then◌else◌, ◌||◌, nat_le, nat_lt, List, ℕ, ◌+◌, ◌*◌, ◌<◌, length, take, drop, Option, Some, None, Result, Ok, Err, IfSome}
 use Rattle.std.specs.Int.{from_bool}
 use Rattle.std.specs.Io.KnownBytes.{Keeps, Appends}
 use Rattle.std.specs.declared.io.Error.{Error}
 use Rattle.judge.specs.declared.verdict.Judgement.{Judgement}
 use Rattle.judge.specs.declared.verdict.JudgeError.{JudgeError}
-use Rattle.judge.specs.Judge.{verdicts, judgement}
+use Rattle.judge.specs.Judge.{most_pairs, verdicts, judgement}
 use Rattle.judge.specs.Frames.{verdict_width, pair_count, row, row_bytes, frames_error}
 use Rattle.judge.specs.Values.{error_number}
 use Rattle.verdict_text.specs.declared.answer.Refusal.{Refusal}
@@ -15,7 +15,7 @@ use Rattle.verdict_text.specs.declared.answer.AnswerError.{AnswerError}
 use Rattle.verdict_text.specs.declared.stream.Calls.{Calls}
 use Rattle.verdict_text.specs.Calls.{Failed, WriteFailed}
 use Rattle.verdict_text.specs.Read.{store_in}
-use Rattle.verdict_text.specs.Write.{refusal_line, judgement_text}
+use Rattle.verdict_text.specs.Write.{verdict_line, last_line, refusal_line, judgement_text, over}
 
 -- ---- the answer to a text
 
@@ -56,6 +56,18 @@ response_text text more = printed (judged text more)
 
 abbrev pub answer_text : List ℕ → List ℕ
 answer_text text = response_text text false
+
+-- The room of the longest answer.
+abbrev pub response_room : ℕ
+response_room = most_pairs * verdict_line + last_line
+
+-- What is printed is written to the start of a buffer that has this room, and nothing to a shorter one: how many bytes are written, and the
+-- buffer after that.
+abbrev pub response_length : List ℕ → Bool → List ℕ → Option ℕ
+response_length text more buffer = if nat_le response_room (length buffer) then Some (length (response_text text more)) else None
+
+abbrev pub response_over : List ℕ → Bool → List ℕ → List ℕ
+response_over text more buffer = if nat_le response_room (length buffer) then over (response_text text more) buffer else buffer
 
 -- ---- reader and writer
 

@@ -1,6 +1,6 @@
 -- The rules of the text of `verdicts` by rows, on both sides of each bound (docs/FORMAT.md, "The program verdicts"). Texts are spelled in
 -- their digits; what is printed is written out.
-use Rattle.std.specs.Prelude.{◌≡◌, Bool, true, List, [], ◌∷◌, ◌++◌, ℕ, ◌-◌, ◌+◌, ◌^◌, length, take, drop, replicate, map, codes, Option, Some, None, Result, Ok, Err}
+use Rattle.std.specs.Prelude.{◌≡◌, Bool, true, false, List, [], ◌∷◌, ◌++◌, ℕ, ◌-◌, ◌+◌, ◌^◌, length, take, drop, replicate, map, codes, Option, Some, None, Result, Ok, Err}
 use Rattle.std.specs.List.{flat_map}
 use Rattle.std.specs.declared.io.Error.{Error}
 use Rattle.std.specs.declared.io.ErrorKind.{ErrorKind}
@@ -8,8 +8,8 @@ use Rattle.std.specs.IoError.{error_kind}
 use Rattle.verdict_text.specs.declared.answer.AnswerError.{AnswerError}
 use Rattle.verdict_text.specs.declared.stream.Calls.{Calls}
 use Rattle.verdict_text.specs.Calls.{no_calls, noted, Failed, WriteFailed}
-use Rattle.verdict_text.specs.Write.{over}
-use Rattle.verdict_text.specs.Answer.{response_text, answer_text, Left, Written, Reported}
+use Rattle.verdict_text.specs.Write.{refusal_line, judgement_text, over, written, written_over}
+use Rattle.verdict_text.specs.Answer.{response_text, answer_text, response_length, response_over, Left, Written, Reported}
 
 -- ---- texts
 
@@ -239,10 +239,44 @@ pub record PrintedRows : Type 0 where
 
 -- ---- what becomes of the buffer
 
+abbrev pub sevens : ℕ → List ℕ
+sevens n = replicate n 7
+
+-- What is told, and what becomes of so many sevens: by the answer to a text, and by one text or line alone.
+abbrev pub answered_in : List ℕ → ℕ → Option ℕ × List ℕ
+answered_in text n = (response_length text false (sevens n), response_over text false (sevens n))
+
+abbrev pub put_in : List ℕ → ℕ → Option ℕ × List ℕ
+put_in text n = (written text (sevens n), written_over text (sevens n))
+
+-- The text of a judgement that heals nothing, and that of a store of 112 Blank pairs, the longest answer.
+abbrev pub judged_as : List ℕ → List ℕ
+judged_as bytes = judgement_text bytes (record { heal = None; writable = true; clean = false; refused = false; owners_differ = false })
+
+abbrev pub most_blanks : List ℕ
+most_blanks = codes "00\n" ++ flat_map ended (replicate 112 blanks)
+
+abbrev pub longest_answer : List ℕ
+longest_answer = flat_map ended (replicate 112 (codes "02000404")) ++ codes "000000000000000000\n"
+
 pub record PlaceRows : Type 0 where
   pub rest_kept : over (1 ∷ 2 ∷ []) (7 ∷ 8 ∷ 9 ∷ []) ≡ 1 ∷ 2 ∷ 9 ∷ []
   pub nothing_over : over [] (7 ∷ 8 ∷ []) ≡ 7 ∷ 8 ∷ []
   pub all_over : over (1 ∷ 2 ∷ []) (7 ∷ 8 ∷ []) ≡ 1 ∷ 2 ∷ []
+  pub room : answered_in (codes "00\n") 1027 ≡ (Some 4, codes "R08\n" ++ sevens 1023)
+  pub more_room : answered_in (codes "00\n") 1028 ≡ (Some 4, codes "R08\n" ++ sevens 1024)
+  pub no_room : map (answered_in (codes "00\n")) (1026 ∷ 4 ∷ 0 ∷ []) ≡ (None, sevens 1026) ∷ (None, sevens 4) ∷ (None, []) ∷ []
+  pub longest : answered_in most_blanks 1027 ≡ (Some 1027, longest_answer)
+  pub no_room_for_longest : answered_in most_blanks 1026 ≡ (None, sevens 1026)
+  pub refusals : map (λ n. put_in (refusal_line n) 4) (0 ∷ 45 ∷ 99 ∷ 100 ∷ 255 ∷ [])
+      ≡ map (λ (l : List ℕ). (Some 4, l)) (codes "R00\n" ∷ codes "R45\n" ∷ codes "R99\n" ∷ codes "R:0\n" ∷ codes "RI5\n" ∷ [])
+  pub rest_of_refusal : put_in (refusal_line 45) 5 ≡ (Some 4, codes "R45\n" ++ 7 ∷ [])
+  pub no_refusal : map (put_in (refusal_line 45)) (3 ∷ 0 ∷ []) ≡ (None, sevens 3) ∷ (None, []) ∷ []
+  pub judgement : put_in (judged_as (0 ∷ 1 ∷ 0 ∷ 1 ∷ [])) 28 ≡ (Some 28, codes "00010001\n000000000001000000\n")
+  pub rest_of_judgement : put_in (judged_as (0 ∷ 1 ∷ 0 ∷ 1 ∷ [])) 29 ≡ (Some 28, codes "00010001\n000000000001000000\n" ++ 7 ∷ [])
+  pub no_judgement : map (put_in (judged_as (0 ∷ 1 ∷ 0 ∷ 1 ∷ []))) (27 ∷ 19 ∷ 0 ∷ []) ≡ (None, sevens 27) ∷ (None, sevens 19) ∷ (None, []) ∷ []
+  pub part_of_a_verdict : map (λ bytes. put_in (judged_as bytes) 28) ([] ∷ (0 ∷ 1 ∷ 0 ∷ []) ∷ (0 ∷ 1 ∷ 0 ∷ 1 ∷ 9 ∷ []) ∷ [])
+      ≡ (Some 19, codes "000000000001000000\n" ++ sevens 9) ∷ (Some 19, codes "000000000001000000\n" ++ sevens 9) ∷ (Some 28, codes "00010001\n000000000001000000\n") ∷ []
 
 -- ---- which error is reported
 

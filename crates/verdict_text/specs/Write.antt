@@ -1,6 +1,6 @@
 -- The lines that program `verdicts` prints (docs/FORMAT.md, "The program verdicts"): a line a pair, then one line for the store; or R
 -- and a number. Bytes are two lower-case hexadecimal digits each, and a newline ends every line.
-use Rattle.std.specs.Prelude.{List, [], ◌∷◌, ◌++◌, ℕ, ◌+◌, ◌*◌, ◌/◌, ◌%◌, length, take, drop}
+use Rattle.std.specs.Prelude.{if◌then◌else◌, List, [], ◌∷◌, ◌++◌, ℕ, ◌+◌, ◌*◌, ◌/◌, ◌%◌, nat_le, length, take, drop, Option, Some, None}
 use Rattle.std.specs.Int.{w64, to_le_bytes, from_bool}
 use Rattle.std.specs.List.{flat_map}
 use Rattle.std.specs.Simd.{first_chunks}
@@ -42,3 +42,11 @@ judgement_text verdicts j = flat_map line (first_chunks verdict_width (length ve
 -- The bytes in the place of as many at the start of a buffer.
 abbrev pub over : List ℕ → List ℕ → List ℕ
 over bytes buffer = bytes ++ drop (length bytes) buffer
+
+-- A text is written to the start of a buffer that has room for all of it, and nothing to another: how many bytes are written, and the buffer
+-- after that.
+abbrev pub written : List ℕ → List ℕ → Option ℕ
+written text buffer = if nat_le (length text) (length buffer) then Some (length text) else None
+
+abbrev pub written_over : List ℕ → List ℕ → List ℕ
+written_over text buffer = if nat_le (length text) (length buffer) then over text buffer else buffer

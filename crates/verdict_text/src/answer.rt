@@ -5,14 +5,13 @@ ghost use Rattle.std.specs.Io.{ReadsAtMost, WritesAtMost};
 ghost use Rattle.std.specs.Io.KnownBytes.{Appends, ReadConsumes, WriteAppends};
 ghost use Rattle.judge.specs.Judge.{most_pairs};
 ghost use Rattle.judge.specs.Frames.{verdict_width};
-ghost use Rattle.verdict_text.specs.Write.{verdict_line, last_line, over};
 ghost use Rattle.verdict_text.specs.Calls.{Failed, WriteFailed};
-ghost use Rattle.verdict_text.specs.Answer.{refusal_number, is_long, judged, response_text, Left, Written, Reported, cause, LosesFewer, AppendsFront};
+ghost use Rattle.verdict_text.specs.Answer.{refusal_number, is_long, judged, response_length, response_over, Left, Written, Reported, cause, LosesFewer, AppendsFront};
 ghost use Rattle.verdict_text.specs.Steps.{Fills, Reads};
 
 use crate::read::{FRAMES, read_store};
 use crate::stream::{Sink, Source, is_interruption};
-use crate::write::{LAST_LINE, VERDICT_LINE, write_judgement, write_refusal};
+use crate::write::{LAST_LINE, VERDICT_LINE, put_judgement, put_refusal};
 use judge::frames::{FRAME, VERDICT, judge};
 use judge::verdict::{JudgeError, Judgement, MOST_PAIRS};
 use std::fmt;
@@ -87,7 +86,9 @@ pub fn answer<S: Source, K: Sink>(source: &mut S, sink: &mut K) -> Result<(), An
         Err(error) => return Err(AnswerError::Read(error)),
     };
     let mut response = [0u8; ROOM];
-    let length = respond(&text[..held], more, &mut response);
+    let Some(length) = respond(&text[..held], more, &mut response) else {
+        unreachable!()
+    };
     match put(sink, &response[..length]) {
         Ok(()) => Ok(()),
         Err(error) => Err(AnswerError::Write(error)),
@@ -178,21 +179,20 @@ fn write_some<K: Sink>(sink: &mut K, bytes: &[u8]) -> io::Result<usize>
     Err(ErrorKind::TimedOut.into())
 }
 
-/// Writes the answer to a text to the start of `response`, and tells how many bytes it has; the bytes after it stay. `more`: whether others
-/// follow those of `text`. A caller that holds 65,536 bytes has all of a text that is judged.
-#[tactic(auto, using(crate::proofs::WriteLaws::end_of, crate::proofs::WriteLaws::over_by))]
-pub fn respond(text: &[u8], more: bool, response: &mut [u8; ROOM]) -> usize
-    ensures value { result ≡ length (response_text text.now more) }
-    ensures response_after { response.new ≡ over (response_text text.now more) response.old }
+/// Writes the answer to a text to the start of `response`, and tells how many bytes it has; the bytes after it stay. `None` where `response`
+/// is shorter than `ROOM`, whatever the answer: it is as it was. `more`: whether others follow the bytes of `text`. A caller that holds 65,536
+/// bytes has all of a text that is judged.
+pub fn respond(text: &[u8], more: bool, response: &mut [u8]) -> Option<usize>
+    ensures value { result ≡ response_length text.now more response.old }
+    ensures response_after { response.new ≡ response_over text.now more response.old }
 {
+    if response.len() < ROOM {
+        return None;
+    }
     let mut verdicts = [0u8; VERDICTS];
     match judged(text, more, &mut verdicts) {
-        Ok((pairs, judgement)) => write_judgement(
-            response,
-            &verdicts[..pairs * VERDICT],
-            judgement,
-        ),
-        Err(refusal) => write_refusal(response, refusal.number()),
+        Ok((pairs, judgement)) => put_judgement(response, &verdicts[..pairs * VERDICT], judgement),
+        Err(refusal) => put_refusal(response, refusal.number()),
     }
 }
 

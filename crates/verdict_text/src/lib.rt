@@ -5,4 +5,4 @@ pub mod answer;
 pub mod laws;
 pub mod read;
 pub mod stream;
-mod write;
+pub mod write;

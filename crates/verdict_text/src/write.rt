@@ -1,19 +1,19 @@
 // The lines that are printed: a line a pair, then one line for the store; or the line of a refusal.
 ghost use Rattle.std.specs.Prelude.{◌≡◌, ◌++◌, ◌+◌, ◌*◌, ◌/◌, ◌≤◌, ◌<◌, length, take, drop};
-ghost use Rattle.judge.specs.Frames.{verdict_width};
-ghost use Rattle.verdict_text.specs.Write.{line, verdict_line, last_line, refusal_line, judgement_bytes, judgement_text};
+ghost use Rattle.verdict_text.specs.Write.{line, refusal_line, judgement_bytes, judgement_text, written, written_over};
 
 // Written byte for byte into a buffer of fixed size, each line equal to a definition: `Display` writes to a writer, and there is none here.
 
 use judge::frames::VERDICT;
 use judge::verdict::Judgement;
 
-/// The widths of a verdict's line, of a judgement and of its line, the last one.
-pub(crate) const VERDICT_LINE: usize = 2 * VERDICT + 1;
+/// The width of a verdict's line.
+pub const VERDICT_LINE: usize = 2 * VERDICT + 1;
 
 const JUDGEMENT: usize = 9;
 
-pub(crate) const LAST_LINE: usize = 2 * JUDGEMENT + 1;
+/// The width of a judgement's line, the last one.
+pub const LAST_LINE: usize = 2 * JUDGEMENT + 1;
 
 // Writes a line of these bytes at a place, and tells where it ends.
 fn write_line(output: &mut [u8], at: usize, bytes: &[u8]) -> usize
@@ -48,29 +48,34 @@ fn judgement_bytes(j: Judgement) -> [u8; JUDGEMENT]
     ]
 }
 
-// Writes the verdicts' lines and the last line to the start of `output`, and tells how many bytes they are.
-pub(crate) fn write_judgement(output: &mut [u8], verdicts: &[u8], j: Judgement) -> usize
-    requires { length verdicts.now / verdict_width * verdict_line + last_line ≤ length output.old }
-    ensures bound { result ≤ length output.new }
-    ensures bytes { take result output.new ≡ judgement_text verdicts.now j }
-    ensures rest { drop result output.new ≡ drop result output.old }
+/// Writes the verdicts' lines and the last line to the start of `output`, and tells how many bytes they are. `None` where there is no room for
+/// all of them: `output` is as it was.
+pub fn put_judgement(output: &mut [u8], verdicts: &[u8], j: Judgement) -> Option<usize>
+    ensures value { result ≡ written (judgement_text verdicts.now j) output.old }
+    ensures output_after { output.new ≡ written_over (judgement_text verdicts.now j) output.old }
 {
     let (verdicts, _) = verdicts.as_chunks::<VERDICT>();
+    // By a division, since so many lines may have more bytes than a number holds.
+    let lines = output.len().checked_sub(LAST_LINE)? / VERDICT_LINE;
+    if lines < verdicts.len() {
+        return None;
+    }
     let mut end = 0;
     for verdict in verdicts {
         end = write_line(output, end, verdict);
     }
-    write_line(output, end, &judgement_bytes(j))
+    Some(write_line(output, end, &judgement_bytes(j)))
 }
 
-// The same for the line of a refusal.
-pub(crate) fn write_refusal(output: &mut [u8], number: u8) -> usize
-    requires { 4 ≤ length output.old }
-    ensures bound { result ≤ length output.new }
-    ensures bytes { take result output.new ≡ refusal_line number }
-    ensures rest { drop result output.new ≡ drop result output.old }
+/// The same for the line of a refusal.
+pub fn put_refusal(output: &mut [u8], number: u8) -> Option<usize>
+    ensures value { result ≡ written (refusal_line number) output.old }
+    ensures output_after { output.new ≡ written_over (refusal_line number) output.old }
 {
+    if output.len() < 4 {
+        return None;
+    }
     let text = [b'R', b'0' + number / 10, b'0' + number % 10, b'\n'];
     output[..4].copy_from_slice(&text);
-    4
+    Some(4)
 }

@@ -1,5 +1,5 @@
 -- A read that was interrupted took nothing, and was noted.
-use Rattle.std.proofs.Common.{◌≡◌, ◌≤◌, ◌-◌, length}
+use Rattle.std.proofs.Common.{◌≡◌, ◌≤◌, length}
 use Rattle.std.specs.Io.KnownBytes.{Keeps}
 use Rattle.verdict_text.proofs.answer.read_some.Given as goal
 

@@ -1,5 +1,5 @@
 -- A write that was interrupted added nothing, and was noted.
-use Rattle.std.proofs.Common.{◌≤◌, ◌-◌}
+use Rattle.std.proofs.Common.{◌≤◌}
 use Rattle.std.specs.Io.KnownBytes.{Keeps}
 use Rattle.verdict_text.proofs.answer.write_some.Given as goal
 

@@ -2,7 +2,7 @@
 use Rattle.std.proofs.Common.{◌≡◌, ◌*◌, length, take, drop}
 use Rattle.std.specs.List.{flat_map}
 use Rattle.verdict_text.specs.Write.{line, verdict_line}
-use Rattle.verdict_text.proofs.write.write_judgement.Given as goal
+use Rattle.verdict_text.proofs.write.put_judgement.Given as goal
 
 abbrev pub invariant-loop-verdict : goal.invariant-loop-verdict
 invariant-loop-verdict l = record {
