@@ -29,11 +29,6 @@ each_printable s test k d within = tested_is _ (AllPass-from_list_all is_printab
 printable_each : (s : List ℕ) → All IsPrintable s → list_all is_printable s ≡ true
 printable_each s each = list_all-from_AllPass is_printable s (λ k d within. is_tested _ (each k d within))
 
--- A fold that keeps whether each byte so far passes.
-pub fold_and : (test : ℕ → Bool) (all : Bool) (s : List ℕ) → fold (λ (a : Bool) (b : ℕ). a && test b) all s ≡ (all && list_all test s)
-fold_and test all [] = sym (and-true all)
-fold_and test all (b ∷ s) = fold_and test (all && test b) s ∙ and_assoc all (test b) (list_all test s)
-
 pub printable_are : PrintableAre
 printable_are s = (each_printable s, printable_each s)
 

@@ -55,9 +55,9 @@ ghost use Rattle.meta.specs.Page.{header_at, decode_page, Gives, parts, entries,
 
 use crate::meta::{
     Field, MAX_LOG2_BLOCK, MIN_LOG2_BLOCK, MetaError, NAME_MAX, RegionKind, RegionName,
-    RegionState, VolumeMeta, all_zero,
+    RegionState, VolumeMeta,
 };
-use codec::codec::{Reader, Writer};
+use codec::codec::{Reader, Writer, all_zero};
 
 /// Encoded length of [`VolumeMeta2`].
 pub const VOLUME_META2_LEN: usize = 64;

@@ -3,7 +3,7 @@ use Rattle.std.proofs.Common.{Bool, true, ◌&&◌, ◌∙◌, ℕ, rules}
 use Rattle.std.proofs.lemmas.Iterator.{YieldsList-from_slice}
 use Rattle.std.proofs.lemmas.Iterator.Consumers.{fold_from_yields_List}
 use Rattle.meta.specs.Name.{is_printable}
-use Rattle.meta.proofs.NameLaws.{fold_and}
+use Rattle.codec.proofs.FoldLaws.{fold_and}
 use Rattle.meta.proofs.meta.all_printable.Goals as goal
 
 pub returns : goal.returns
