@@ -22,7 +22,7 @@ ghost use Rattle.meta.specs.Scalar.{GrammarEncodes};
 ghost use Rattle.meta.specs.Name.{is_printable, is_name, zero_at, named, padded, text, name_text, PrintableAre, NamesAre, NamesBack};
 ghost use Rattle.meta.specs.Base.{base_at, check_base, decode_base, base_row, encode_base, BasesBack};
 
-use codec::codec::{Reader, Writer, copy};
+use codec::codec::{Reader, Writer, all_zero, copy};
 use std::error::Error;
 use std::{fmt, str};
 
@@ -273,7 +273,7 @@ fn text(bytes: &[u8]) -> &str
 }
 
 /// Whether bytes are UTF-8.
-fn is_utf8(bytes: &[u8]) -> bool
+pub fn is_utf8(bytes: &[u8]) -> bool
     ensures { result ≡ utf8 bytes.now }
 {
     str::from_utf8(bytes).is_ok()
@@ -308,13 +308,6 @@ fn zero_at(bytes: &[u8]) -> usize
     ensures within { result ≤ length bytes.now }
 {
     bytes.iter().position(|&b| b == 0).unwrap_or(bytes.len())
-}
-
-/// Whether every byte is zero.
-pub(crate) fn all_zero(bytes: &[u8]) -> bool
-    ensures { result ≡ list_all (λ b. b == 0) bytes.now }
-{
-    bytes.iter().all(|&b| b == 0)
 }
 
 /// Smallest and largest block, and table slot, as a power of two: 4 KiB and 64 KiB.

@@ -67,7 +67,7 @@ pub fn valid_of(generation: u64, header_crc32c: u32, prev_header_crc32c: u32) ->
     }
 }
 
-// The status with a number, where any number above 11 is a valid slot's. `sio_decide` refuses one above 12, and asks `from_code`.
+/// The status with a number, where any number above 11 is a valid slot's. `sio_decide` refuses one above 12, and asks `from_code`.
 pub fn status_of(
     code: u32,
     generation: u64,
