@@ -17,7 +17,7 @@ pub(crate) const FRAMES: usize = MOST_PAIRS * FRAME;
 pub fn is_lower_hex(text: &[u8]) -> bool
     ensures { result ≡ list_all is_digit text.now }
 {
-    text.iter().all(|c| matches!(*c, b'0'..=b'9' | b'a'..=b'f'))
+    text.iter().fold(true, |all, &c| all & matches!(c, b'0'..=b'9' | b'a'..=b'f'))
 }
 
 // The place of the first `c`.
