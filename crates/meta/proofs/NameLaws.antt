@@ -2,10 +2,10 @@
 use Rattle.std.proofs.Common.{◌≡◌, refl, sym, ap, ap₂, ◌∙◌, Bool, true, false, cond, not, ◌&&◌, List, [], ◌∷◌, ◌++◌, ℕ, zero, suc, ◌+◌, ◌-◌, ◌≤◌, ◌<◌, ◌==◌, arith, eq-eqb, ne_eqb, le-ltb, le-leb, eqb-true, length, take, drop, replicate, Option, Some, None, Ok, length-drop, take-append-drop, length-take-le, take_at, drop_at}
 use Rattle.std.specs.Prelude.{if◌then◌else◌}
 use Rattle.std.specs.Option.{MatchOption, ok_or, unwrap_or}
-use Rattle.std.specs.List.{All, AllWithin, HoldsAt, fold, list_all}
+use Rattle.std.specs.List.{All, AllWithin, HoldsAt, list_all}
 use Rattle.std.proofs.lemmas.List.Sums.{position_or_len_is, AllPass-from_list_all, list_all-from_AllPass}
 use Rattle.std.proofs.lemmas.List.Folds.{list_all-append}
-use Rattle.std.proofs.Math.Bool.{and_assoc, and-eq-true_iff, and-true}
+use Rattle.std.proofs.Math.Bool.{and-eq-true_iff, and-true}
 use Rattle.meta.specs.Utf8.{utf8}
 use Rattle.meta.specs.Scalar.{encode, encode_all}
 use Rattle.meta.specs.Name.{is_printable, is_name, zero_at, stored_name, name_of, name_in, named, padded, name_text, IsPrintable, PrintableAre, IsName, NamesAre, NamesBack}
