@@ -1,6 +1,6 @@
 // A list replayed: each line's case is asked, up to the first whose answer is not the one expected.
 ghost use Rattle.std.specs.Prelude.{◌≡◌};
-ghost use Rattle.cases.specs.Compare.{compare};
+ghost use Rattle.cases.specs.Compare.{compare, within};
 
 use crate::line::{field_bytes, split};
 use arrayvec::ArrayVec;
@@ -8,9 +8,6 @@ use std::alloc::{AllocError, Global};
 use std::fmt;
 use std::io::{self, Read, Write};
 use verdict_text::read::cut;
-
-/// The longest list that is read.
-const LONGEST: usize = 131_072;
 
 /// An answer as it is packed, or a buffer to be written to.
 pub type Bytes = ArrayVec<u8, 4096>;
@@ -46,6 +43,12 @@ pub trait Table {
     /// The names, in the order in which the cases are counted.
     const NAMES: &'static [&'static str];
 
+    /// The most bytes of a list,
+    const LONGEST: usize = 65_536;
+
+    /// and of an input, of what is expected and of an answer.
+    const FIELD: usize = 1024;
+
     // Each table goes by a `match` on the name: a function pointer that is called wants a `requires` where it comes in, and no public
     // function has one. Input and answer go side by side: a struct of both would be made for this call alone.
     /// Packs the answer of the function of this name. There is none where the input is shorter than its arguments.
@@ -59,9 +62,11 @@ pub trait Table {
     ) -> io::Result<()> {
         let mut list = Vec::new(alloc);
         // A byte more tells a list that is too long.
-        input.take(LONGEST as u64 + 1).read_to_end(&mut list)?;
-        if LONGEST < list.len() {
-            return writeln!(output, "the list has more than {LONGEST} bytes");
+        input
+            .take((Self::LONGEST as u64).saturating_add(1))
+            .read_to_end(&mut list)?;
+        if Self::LONGEST < list.len() {
+            return writeln!(output, "the list has more than {} bytes", Self::LONGEST);
         }
         Self::replay(alloc, &list, output)
     }
@@ -98,15 +103,29 @@ pub trait Table {
         let Some(input) = field_bytes(alloc, input)? else {
             return Err(Fault::Unreadable);
         };
+        within(&input, Self::FIELD)?;
         let Some(expected) = field_bytes(alloc, expected)? else {
             return Err(Fault::Unreadable);
         };
+        within(&expected, Self::FIELD)?;
         let mut answer = Bytes::new();
         let Some(()) = Self::answer(name, &input, &mut answer) else {
             return Err(Fault::Unreadable);
         };
+        within(&answer, Self::FIELD)?;
         compare(&answer, &expected)?;
         Ok(place)
+    }
+}
+
+// Whether a field has at most so many bytes.
+fn within(field: &[u8], most: usize) -> Result<(), Fault>
+    ensures { result ≡ within field.now most }
+{
+    if field.len() <= most {
+        Ok(())
+    } else {
+        Err(Fault::Unreadable)
     }
 }
 

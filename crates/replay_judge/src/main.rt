@@ -20,7 +20,7 @@
 
 use cases::input::{first_length, first_u8, narrow};
 use cases::replay::{Bytes, Table};
-use judge::frames::VERDICT;
+use judge::frames::{FRAME, VERDICT};
 use judge::records::{PairRead, SlotRead};
 use judge::verdict::{MOST_PAIRS, PairVerdict, SlotVerdict, Standing};
 use row::{judge_row, put_verdicts};
@@ -31,6 +31,9 @@ use store_io::judging::{JUDGEMENT, judgement_values, sio_judge};
 /// The most pairs of a row: more than are judged, to be refused.
 const PAIRS: usize = 2 * MOST_PAIRS;
 
+/// The bytes of MARK.
+const MARK: usize = 3;
+
 struct Judges;
 
 fn main(rt: HostRuntime) -> io::Result<()> {
@@ -39,6 +42,10 @@ fn main(rt: HostRuntime) -> io::Result<()> {
 
 impl Table for Judges {
     const NAMES: &'static [&'static str] = &["jdg", "frm", "row"];
+
+    const LONGEST: usize = 131_072;
+
+    const FIELD: usize = MARK + PAIRS * FRAME;
 
     fn answer(name: &[u8], input: &[u8], answer: &mut Bytes) -> Option<()> {
         match name {

@@ -56,6 +56,11 @@ const NOTHING: usize = 0xffff_ffff;
 
 const NO_NAME: [u8; 24] = [255; 24];
 
+/// The longest buffer in a list, and the answer that has it: a refusal, the bytes written and the buffer.
+const BUFFER: usize = 1024;
+
+const LONGEST_ANSWER: usize = 1 + 8 + BUFFER;
+
 struct Meta;
 
 fn main(rt: HostRuntime) -> io::Result<()> {
@@ -67,6 +72,8 @@ impl Table for Meta {
         "nam", "pad", "vde", "ven", "bde", "ben", "epp", "end", "fit", "pde", "pen", "ere", "ewr",
         "ech", "raw", "ena", "enk", "rsp",
     ];
+
+    const FIELD: usize = LONGEST_ANSWER;
 
     fn answer(name: &[u8], input: &[u8], answer: &mut Bytes) -> Option<()> {
         match name {
@@ -208,7 +215,7 @@ fn ben(input: &[u8], answer: &mut Bytes) -> Option<()> {
 fn buffer(input: &[u8]) -> Option<(Bytes, u8, &[u8])> {
     let (length, rest) = first_length(input)?;
     let (fill, rest) = first_u8(rest)?;
-    let bytes = Bytes::try_from([fill; 1024].get(..length)?).ok()?;
+    let bytes = Bytes::try_from([fill; BUFFER].get(..length)?).ok()?;
     Some((bytes, fill, rest))
 }
 

@@ -30,8 +30,10 @@ use store_io::planning::{
     sio_heal_number, sio_next_number, sio_next_write, sio_plan_heal, sio_plan_write,
 };
 
-/// The longest slot in a list.
+/// The longest slot in a list, and the answer that has it: a refusal, a plan of four numbers, the header checksum and the slot.
 const SLOT: usize = 1024;
+
+const LONGEST_ANSWER: usize = 1 + 4 * 8 + 4 + SLOT;
 
 /// Room for frames of more pairs than are planned for, to be refused.
 type Frames = ArrayVec<u8, 8192>;
@@ -49,6 +51,8 @@ fn main(rt: HostRuntime) -> io::Result<()> {
 
 impl Table for Plans {
     const NAMES: &'static [&'static str] = &["num", "win", "pln", "hea", "wrt"];
+
+    const FIELD: usize = LONGEST_ANSWER;
 
     fn answer(name: &[u8], input: &[u8], answer: &mut Bytes) -> Option<()> {
         match name {

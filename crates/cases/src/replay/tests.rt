@@ -1,4 +1,4 @@
-// What is said of a list: all equal, a case that differs, and lines that are none.
+// What is said of a list: all equal, a case that differs, lines that are none, and what is longer than its table has it.
 use super::*;
 
 struct Complements;
@@ -68,5 +68,59 @@ fn tells_a_line_that_is_no_case(rt: HostRuntime) -> io::Result<()> {
         output.as_slice(),
         b"line 2 cannot be read: not 0f f0\n".as_slice()
     );
+    Ok(())
+}
+
+// The bytes as they are: `fiv` has five zeros.
+struct Narrow;
+
+impl Table for Narrow {
+    const NAMES: &'static [&'static str] = &["one", "fiv"];
+
+    const LONGEST: usize = 30;
+
+    const FIELD: usize = 4;
+
+    fn answer(name: &[u8], input: &[u8], answer: &mut Bytes) -> Option<()> {
+        if name == b"fiv".as_slice() {
+            return answer.try_extend_from_slice(&[0; 5]).ok();
+        }
+        answer.try_extend_from_slice(input).ok()
+    }
+}
+
+fn said_narrowly(rt: &HostRuntime, list: &[u8]) -> io::Result<Vec<u8>> {
+    let mut output = Vec::new(rt.alloc());
+    Narrow::run(rt.alloc(), list, &mut output)?;
+    Ok(output)
+}
+
+#[test]
+fn tells_a_list_that_is_too_long(rt: HostRuntime) -> io::Result<()> {
+    let output = said_narrowly(&rt, b"one 01 01\none 01 01\none 01 01\n")?;
+    assert_eq!(rt;
+        output.as_slice(),
+        b"one 3 equal\nfiv 0 equal\n3 cases, all equal\n".as_slice()
+    );
+    let output = said_narrowly(&rt, b"one 01 01\none 01 01\none 01 01\n\n")?;
+    assert_eq!(rt;
+        output.as_slice(),
+        b"the list has more than 30 bytes\n".as_slice()
+    );
+    Ok(())
+}
+
+#[test]
+fn tells_a_field_that_is_too_long(rt: HostRuntime) -> io::Result<()> {
+    let output = said_narrowly(&rt, b"one 01020304 01020304\n")?;
+    assert!(rt; output.starts_with(b"one 1 equal\n"));
+    for line in [
+        b"one 0102030405 01020304\n".as_slice(),
+        b"one 01 0102030405\n",
+        b"fiv 01 00000000\n",
+    ] {
+        let output = said_narrowly(&rt, line)?;
+        assert!(rt; output.starts_with(b"line 1 cannot be read: "));
+    }
     Ok(())
 }
