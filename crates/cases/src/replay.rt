@@ -54,6 +54,12 @@ pub trait Table {
     /// Packs the answer of the function of this name. There is none where the input is shorter than its arguments.
     fn answer(name: &[u8], input: &[u8], answer: &mut Bytes) -> Option<()>;
 
+    /// Packs, in place of that answer, the one made in a second way, which is to be the one expected as well. Where there is one way the
+    /// answer stays.
+    fn second(_name: &[u8], _input: &[u8], _answer: &mut Bytes) -> Option<()> {
+        Some(())
+    }
+
     /// Replays the list that `input` has, and says so.
     final fn run<R: Read + Drop, W: Write>(
         alloc: Global,
@@ -89,7 +95,7 @@ pub trait Table {
         summary(output, Self::NAMES, &counts, equal)
     }
 
-    /// The place of the case's name, where its answer is the one expected.
+    /// The place of the case's name, where each of its answers is the one expected.
     final fn case(alloc: Global, line: &[u8]) -> Result<usize, Fault> {
         let Some((name, input, expected)) = split(line) else {
             return Err(Fault::Unreadable);
@@ -110,6 +116,11 @@ pub trait Table {
         within(&expected, Self::FIELD)?;
         let mut answer = Bytes::new();
         let Some(()) = Self::answer(name, &input, &mut answer) else {
+            return Err(Fault::Unreadable);
+        };
+        within(&answer, Self::FIELD)?;
+        compare(&answer, &expected)?;
+        let Some(()) = Self::second(name, &input, &mut answer) else {
             return Err(Fault::Unreadable);
         };
         within(&answer, Self::FIELD)?;

@@ -71,11 +71,11 @@ fn tells_a_line_that_is_no_case(rt: HostRuntime) -> io::Result<()> {
     Ok(())
 }
 
-// The bytes as they are: `fiv` has five zeros.
+// The bytes as they are: `fiv` has five zeros, and `two` the two bytes turned round as its second answer.
 struct Narrow;
 
 impl Table for Narrow {
-    const NAMES: &'static [&'static str] = &["one", "fiv"];
+    const NAMES: &'static [&'static str] = &["one", "two", "fiv"];
 
     const LONGEST: usize = 30;
 
@@ -86,6 +86,16 @@ impl Table for Narrow {
             return answer.try_extend_from_slice(&[0; 5]).ok();
         }
         answer.try_extend_from_slice(input).ok()
+    }
+
+    fn second(name: &[u8], input: &[u8], answer: &mut Bytes) -> Option<()> {
+        if name != b"two".as_slice() {
+            return Some(());
+        }
+        let (first, rest) = input.split_first()?;
+        let (last, _) = rest.split_first()?;
+        answer.clear();
+        answer.try_extend_from_slice(&[*last, *first]).ok()
     }
 }
 
@@ -100,7 +110,7 @@ fn tells_a_list_that_is_too_long(rt: HostRuntime) -> io::Result<()> {
     let output = said_narrowly(&rt, b"one 01 01\none 01 01\none 01 01\n")?;
     assert_eq!(rt;
         output.as_slice(),
-        b"one 3 equal\nfiv 0 equal\n3 cases, all equal\n".as_slice()
+        b"one 3 equal\ntwo 0 equal\nfiv 0 equal\n3 cases, all equal\n".as_slice()
     );
     let output = said_narrowly(&rt, b"one 01 01\none 01 01\none 01 01\n\n")?;
     assert_eq!(rt;
@@ -122,5 +132,23 @@ fn tells_a_field_that_is_too_long(rt: HostRuntime) -> io::Result<()> {
         let output = said_narrowly(&rt, line)?;
         assert!(rt; output.starts_with(b"line 1 cannot be read: "));
     }
+    Ok(())
+}
+
+#[test]
+fn compares_each_answer(rt: HostRuntime) -> io::Result<()> {
+    let output = said_narrowly(&rt, b"two 0101 0101\n")?;
+    assert!(rt; output.starts_with(b"one 0 equal\ntwo 1 equal\n"));
+    for line in [
+        b"two 0102 0102\n".as_slice(),
+        b"two 0102 0201\n",
+        b"two 0102 01020201\n",
+        b"two 01 02\n",
+    ] {
+        let output = said_narrowly(&rt, line)?;
+        assert!(rt; output.starts_with(b"line 1 differs: "));
+    }
+    let output = said_narrowly(&rt, b"two 01 01\n")?;
+    assert!(rt; output.starts_with(b"line 1 cannot be read: "));
     Ok(())
 }
