@@ -15,6 +15,7 @@
 // | wze | position, count, buffer | refusal, position, buffer |
 #![tactic(auto)]
 
+use arrayvec::ArrayVec;
 use cases::input::{first_length, first_size, first_u8, first_u16, first_u32, first_u64, narrow};
 use cases::replay::{Bytes, Table};
 use std::io;
@@ -24,6 +25,9 @@ use store_io::cursor::{
     sio_read_u64, sio_write_bytes, sio_write_u8, sio_write_u16, sio_write_u32, sio_write_u64,
     sio_write_zeros,
 };
+
+/// A buffer that is written to: no input has more bytes.
+type Buffer = ArrayVec<u8, 1024>;
 
 struct Codec;
 
@@ -148,7 +152,7 @@ fn read(answer: &mut Bytes, refusal: u32, position: usize, value: &[u8]) -> Opti
 fn wu1(input: &[u8], answer: &mut Bytes) -> Option<()> {
     let (mut position, rest) = first_size(input)?;
     let (value, buffer) = first_u8(rest)?;
-    let mut buffer = Bytes::try_from(buffer).ok()?;
+    let mut buffer = Buffer::try_from(buffer).ok()?;
     let refusal = sio_write_u8(&mut buffer, &mut position, value);
     written(answer, refusal, position, &buffer)
 }
@@ -156,7 +160,7 @@ fn wu1(input: &[u8], answer: &mut Bytes) -> Option<()> {
 fn wu2(input: &[u8], answer: &mut Bytes) -> Option<()> {
     let (mut position, rest) = first_size(input)?;
     let (value, buffer) = first_u16(rest)?;
-    let mut buffer = Bytes::try_from(buffer).ok()?;
+    let mut buffer = Buffer::try_from(buffer).ok()?;
     let refusal = sio_write_u16(&mut buffer, &mut position, value);
     written(answer, refusal, position, &buffer)
 }
@@ -164,7 +168,7 @@ fn wu2(input: &[u8], answer: &mut Bytes) -> Option<()> {
 fn wu4(input: &[u8], answer: &mut Bytes) -> Option<()> {
     let (mut position, rest) = first_size(input)?;
     let (value, buffer) = first_u32(rest)?;
-    let mut buffer = Bytes::try_from(buffer).ok()?;
+    let mut buffer = Buffer::try_from(buffer).ok()?;
     let refusal = sio_write_u32(&mut buffer, &mut position, value);
     written(answer, refusal, position, &buffer)
 }
@@ -172,7 +176,7 @@ fn wu4(input: &[u8], answer: &mut Bytes) -> Option<()> {
 fn wu8(input: &[u8], answer: &mut Bytes) -> Option<()> {
     let (mut position, rest) = first_size(input)?;
     let (value, buffer) = first_u64(rest)?;
-    let mut buffer = Bytes::try_from(buffer).ok()?;
+    let mut buffer = Buffer::try_from(buffer).ok()?;
     let refusal = sio_write_u64(&mut buffer, &mut position, value);
     written(answer, refusal, position, &buffer)
 }
@@ -180,7 +184,7 @@ fn wu8(input: &[u8], answer: &mut Bytes) -> Option<()> {
 fn wby(input: &[u8], answer: &mut Bytes) -> Option<()> {
     let (mut position, rest) = first_size(input)?;
     let (count, rest) = first_length(rest)?;
-    let mut buffer = Bytes::try_from(rest.get(count..)?).ok()?;
+    let mut buffer = Buffer::try_from(rest.get(count..)?).ok()?;
     let refusal = sio_write_bytes(&mut buffer, &mut position, rest.get(..count)?);
     written(answer, refusal, position, &buffer)
 }
@@ -188,7 +192,7 @@ fn wby(input: &[u8], answer: &mut Bytes) -> Option<()> {
 fn wze(input: &[u8], answer: &mut Bytes) -> Option<()> {
     let (mut position, rest) = first_size(input)?;
     let (count, buffer) = first_size(rest)?;
-    let mut buffer = Bytes::try_from(buffer).ok()?;
+    let mut buffer = Buffer::try_from(buffer).ok()?;
     let refusal = sio_write_zeros(&mut buffer, &mut position, count);
     written(answer, refusal, position, &buffer)
 }
