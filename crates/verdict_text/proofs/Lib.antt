@@ -3,3 +3,4 @@ pub mod JudgedLaws
 pub mod StepLaws
 pub mod WriteLaws
 pub mod RulesLaws
+pub mod FindLaws

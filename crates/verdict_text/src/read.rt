@@ -9,6 +9,7 @@ use hex::FromHex;
 use judge::frames::{FRAME, operator, parts_in_range};
 use judge::operators;
 use judge::verdict::MOST_PAIRS;
+use memchr::memchr;
 
 /// The room that the frames of a judgement take.
 pub(crate) const FRAMES: usize = MOST_PAIRS * FRAME;
@@ -25,7 +26,7 @@ fn find(text: &[u8], c: u8) -> Option<usize>
     ensures value { result ≡ position (λ x. x == c) text.now }
     ensures bound { IfSome result (λ end. end < length text.now) }
 {
-    text.iter().position(|x| *x == c)
+    memchr(c, text)
 }
 
 /// The text up to the first `c`, and after it.
