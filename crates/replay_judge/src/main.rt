@@ -18,6 +18,8 @@
 // over frames that changes what it was lent is packed as an answer, so that the case differs.
 #![tactic(auto)]
 
+ghost use Rattle.std.specs.Prelude.{◌≤◌};
+
 use cases::input::{first_length, first_u8, narrow};
 use cases::replay::{Bytes, Table};
 use judge::frames::{FRAME, VERDICT};
@@ -30,6 +32,9 @@ use store_io::judging::{JUDGEMENT, judgement_values, sio_judge};
 
 /// The most pairs of a row: more than are judged, to be refused.
 const PAIRS: usize = 2 * MOST_PAIRS;
+
+/// The pairs of a short row. Most are, and the room of a row of PAIRS would take most of their time.
+const SHORT: usize = 8;
 
 /// The bytes of MARK.
 const MARK: usize = 3;
@@ -88,6 +93,22 @@ fn over_row(input: &[u8], answer: &mut Bytes) -> Option<()> {
     if clean > 1 || length % VERDICT != 0 {
         return None;
     }
+    if frames.len() <= SHORT * FRAME && length <= SHORT * VERDICT {
+        in_room::<SHORT>(frames, clean == 1, length, answer)
+    } else {
+        in_room::<PAIRS>(frames, clean == 1, length, answer)
+    }
+}
+
+// The answer in a row with room for N pairs and as many verdicts, of which `length` bytes are lent.
+fn in_room<const N: usize>(
+    frames: &[u8],
+    clean: bool,
+    length: usize,
+    answer: &mut Bytes,
+) -> Option<()>
+    requires { N ≤ 224 }
+{
     let unread = SlotRead {
         status: SlotStatus::ReadError,
         facts: None,
@@ -96,23 +117,17 @@ fn over_row(input: &[u8], answer: &mut Bytes) -> Option<()> {
         a: unread,
         b: unread,
         operator: 0,
-    }; PAIRS];
+    }; N];
     let mut verdicts = [PairVerdict {
         standing: Standing::Lost,
         winner: None,
         a: SlotVerdict::Damage,
         b: SlotVerdict::Damage,
-    }; PAIRS];
-    let judged = judge_row(
-        frames,
-        clean == 1,
-        length / VERDICT,
-        &mut pairs,
-        &mut verdicts,
-    );
+    }; N];
+    let judged = judge_row(frames, clean, length / VERDICT, &mut pairs, &mut verdicts);
     let mut bytes = [0u8; PAIRS * VERDICT];
-    put_verdicts(&verdicts, &mut bytes);
-    let left = bytes.get(..length)?;
+    let left = bytes.get_mut(..length)?;
+    put_verdicts(verdicts.get(..length / VERDICT)?, left);
     match judged {
         Err(error) => {
             answer.try_push(error.number()).ok()?;
