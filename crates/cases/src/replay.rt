@@ -44,10 +44,10 @@ pub trait Table {
     const NAMES: &'static [&'static str];
 
     /// The most bytes of a list,
-    const LONGEST: usize = 65_536;
+    const LONGEST: usize = 131_072;
 
-    /// and of an input, of what is expected and of an answer.
-    const FIELD: usize = 1024;
+    /// and of an input, of what is expected and of an answer: any number, where a table says none.
+    const FIELD: usize = usize::MAX;
 
     // Each table goes by a `match` on the name: a function pointer that is called wants a `requires` where it comes in, and no public
     // function has one. Input and answer go side by side: a struct of both would be made for this call alone.

@@ -41,6 +41,10 @@ impl Table for Codec {
         "wu8", "wby", "wze",
     ];
 
+    const LONGEST: usize = 65_536;
+
+    const FIELD: usize = 1024;
+
     fn answer(name: &[u8], input: &[u8], answer: &mut Bytes) -> Option<()> {
         match name {
             b"crc" => crc(input, answer),

@@ -73,6 +73,8 @@ impl Table for Meta {
         "ech", "raw", "ena", "enk", "rsp",
     ];
 
+    const LONGEST: usize = 65_536;
+
     const FIELD: usize = LONGEST_ANSWER;
 
     fn answer(name: &[u8], input: &[u8], answer: &mut Bytes) -> Option<()> {

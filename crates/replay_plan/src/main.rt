@@ -52,6 +52,8 @@ fn main(rt: HostRuntime) -> io::Result<()> {
 impl Table for Plans {
     const NAMES: &'static [&'static str] = &["num", "win", "pln", "hea", "wrt"];
 
+    const LONGEST: usize = 65_536;
+
     const FIELD: usize = LONGEST_ANSWER;
 
     fn answer(name: &[u8], input: &[u8], answer: &mut Bytes) -> Option<()> {

@@ -43,6 +43,10 @@ fn main(rt: HostRuntime) -> io::Result<()> {
 impl Table for Slots {
     const NAMES: &'static [&'static str] = &["enc", "val", "fac", "frm", "dec"];
 
+    const LONGEST: usize = 65_536;
+
+    const FIELD: usize = 1024;
+
     fn answer(name: &[u8], input: &[u8], answer: &mut Bytes) -> Option<()> {
         match name {
             b"enc" => enc(input, answer),

@@ -152,3 +152,53 @@ fn compares_each_answer(rt: HostRuntime) -> io::Result<()> {
     assert!(rt; output.starts_with(b"line 1 cannot be read: "));
     Ok(())
 }
+
+// The bytes as they are, of lists and fields that are not limited.
+struct Same;
+
+impl Table for Same {
+    const NAMES: &'static [&'static str] = &["sam"];
+
+    fn answer(_name: &[u8], input: &[u8], answer: &mut Bytes) -> Option<()> {
+        answer.try_extend_from_slice(input).ok()
+    }
+}
+
+#[test]
+fn takes_a_field_of_any_length(rt: HostRuntime) -> io::Result<()> {
+    let digits = vec![in rt.alloc(); b'0'; 8192]?;
+    let mut list = Vec::new(rt.alloc());
+    list.extend_from_slice(b"sam ")?;
+    list.extend_from_slice(&digits)?;
+    list.push(b' ')?;
+    list.extend_from_slice(&digits)?;
+    list.push(b'\n')?;
+    let mut output = Vec::new(rt.alloc());
+    Same::run(rt.alloc(), list.as_slice(), &mut output)?;
+    assert_eq!(rt;
+        output.as_slice(),
+        b"sam 1 equal\n1 cases, all equal\n".as_slice()
+    );
+    Ok(())
+}
+
+#[test]
+fn takes_a_list_of_131072_bytes(rt: HostRuntime) -> io::Result<()> {
+    let digits = vec![in rt.alloc(); b'0'; 131_064]?;
+    let mut list = Vec::new(rt.alloc());
+    list.extend_from_slice(b"not ")?;
+    list.extend_from_slice(&digits)?;
+    list.extend_from_slice(b" ff\n")?;
+    let output = said(&rt, &list)?;
+    assert_eq!(rt;
+        output.as_slice(),
+        b"not 1 equal\ntwo 0 equal\n1 cases, all equal\n".as_slice()
+    );
+    list.push(b'\n')?;
+    let output = said(&rt, &list)?;
+    assert_eq!(rt;
+        output.as_slice(),
+        b"the list has more than 131072 bytes\n".as_slice()
+    );
+    Ok(())
+}
