@@ -14,4 +14,5 @@ pub mod WriteLaws
 pub mod LeftLaws
 pub mod RowLaws
 pub mod Theorem
+pub mod SurvivedLaws
 pub mod StatementLaws

@@ -15,8 +15,8 @@ use Rattle.judge.specs.Frames.{verdict_width}
 use Rattle.judge.specs.declared.verdict.SlotVerdict.{SlotVerdict}
 use Rattle.judge.specs.declared.verdict.PairVerdict.{PairVerdict}
 use Rattle.cut.specs.Store.{Every, Slot, Pair, slot_at, shown, last_record, store_mark, SoundPair, IsRow}
-use Rattle.cut.specs.Cut.{Tear, Write, store, size, old, new, left, with_slot, after, next_number, Possible, CorrectWrite, whole, Accident, AccidentBy, is_empty, handed, VolumeIfMarked, Survives, CutTheorem}
-use Rattle.cut.specs.Laws.{OlderSurvived, AnyCutSurvived}
+use Rattle.cut.specs.Cut.{Write, store, size, old, new, left, with_slot, after, next_number, Possible, CorrectWrite, whole, Accident, is_empty, handed, VolumeIfMarked, Survives, CutTheorem}
+use Rattle.cut.specs.Laws.{OlderSurvived}
 use Rattle.cut.proofs.EveryLaws.{every_split, same_length}
 use Rattle.cut.proofs.StatusLaws.{false_true}
 use Rattle.cut.proofs.JudgeLaws.{Quiet, quiet_explained, Explained, Healed, healed}
@@ -219,14 +219,3 @@ pub mark_asked : (before : List Pair) (p : Pair) (behind : List Pair) → (store
     → VolumeIfMarked before p behind
 mark_asked before p behind (inl unset) = λ set. false_true unset set
 mark_asked before p behind (inr first) = λ set. ap is_empty first
-
-pub any_cut_survived : AnyCutSurvived
-any_cut_survived =
-    record {
-      ascending = λ w k sound few mark correct is point none out room.
-          cut_theorem w sound few (mark_asked w.before w.pair w.behind mark) correct (subst (λ (tear : Tear). Possible tear (size w)) (sym is) point)
-          (λ accident. none (subst (λ (tear : Tear). AccidentBy tear (left w) (old w) (new w) w.payload) is accident)) out room;
-      sectors = λ w reached sound few mark correct is none out room.
-          cut_theorem w sound few (mark_asked w.before w.pair w.behind mark) correct (subst (λ (tear : Tear). Possible tear (size w)) (sym is) tt)
-          (λ accident. none (subst (λ (tear : Tear). AccidentBy tear (left w) (old w) (new w) w.payload) is accident)) out room;
-    }

@@ -39,7 +39,7 @@ pub fn asked_store()
 {}
 
 // The theorem over what it asks for, written out.
-#[tactic(auto, using(crate::proofs::StatementLaws::any_point, crate::proofs::Theorem::any_cut_survived))]
+#[tactic(auto, using(crate::proofs::StatementLaws::any_point, crate::proofs::SurvivedLaws::any_cut_survived))]
 pub fn asked_cut()
     ensures point { AnyPoint }
     ensures survived { AnyCutSurvived }

@@ -2,4 +2,5 @@ pub mod RowLaws
 pub mod States
 pub mod Steps
 pub mod Theorem
+pub mod PromisedLaws
 pub mod PlanLaws

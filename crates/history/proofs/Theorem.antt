@@ -1,5 +1,5 @@
 -- The theorem over histories: each step leads from a state to the next; and where no write sets the volume record's mark, it stays false.
-use Rattle.std.proofs.Common.{◌≡◌, refl, sym, ap, subst, ◌∙◌, ◌⊎◌, inl, inr, Bool, true, false, List, [], ◌∷◌, ◌++◌, ℕ, zero, suc, ◌*◌, ◌≤◌, arith, length, take, map, Option, Some}
+use Rattle.std.proofs.Common.{◌≡◌, refl, sym, ap, subst, ◌∙◌, ◌⊎◌, inl, inr, Bool, true, false, List, [], ◌∷◌, ◌++◌, ℕ, zero, suc, ◌≤◌, arith, length, take, map, Option, Some}
 use Rattle.std.specs.List.{IsAmong}
 use Rattle.std.proofs.lemmas.List.{length-map}
 use Rattle.codec.specs.Bytes.{le32}
@@ -11,7 +11,6 @@ use Rattle.slot.specs.declared.slot.SlotInfo.{SlotInfo}
 use Rattle.pair.specs.Pair.{winner_info}
 use Rattle.judge.specs.Operators.{operators_in_range}
 use Rattle.judge.specs.Judge.{most_pairs, judgement}
-use Rattle.judge.specs.Frames.{verdict_width}
 use Rattle.cut.specs.Store.{Every, Pair, clean_mark, slot_at, report, shown, store_mark, SoundPair, IsRow}
 use Rattle.cut.specs.Cut.{Tear, Write, size, old, new, left, Possible, is_empty}
 use Rattle.cut.proofs.EveryLaws.{same_length}
@@ -22,7 +21,7 @@ use Rattle.cut.proofs.StateLaws.{sound_won}
 use Rattle.cut.proofs.Theorem.{row_range}
 use Rattle.cut.proofs.RowLaws.{range_kept, rested_stands}
 use Rattle.history.specs.History.{Past, Tracked, past, past_after, pairs, standing, started, record_in, read_mark, Turn, HistoryAccident, HarmfulAccident, write_to, finished, torn_by, Reached, Promised, HistoryTheorem}
-use Rattle.history.specs.Laws.{AnyStoreBegins, AnyWriteAllowed, AnyVolumeWriteAllowed, AnyHealAllowed, AnyCutGoesOn, KnownRecords, ReadIsKnown, Unmarked, TheoremWithoutMark, UnmarkedBegins, UnmarkedFinish, UnmarkedCut, StartMark, FinishedMark, AsWritten, LinkAtMost, AnyAsWritten, FailedPayload, EachStepPromised, OnlyTheWritten, HarmfulAlone, HarmfulIsAccident}
+use Rattle.history.specs.Laws.{AnyStoreBegins, AnyWriteAllowed, AnyVolumeWriteAllowed, AnyHealAllowed, AnyCutGoesOn, KnownRecords, ReadIsKnown, Unmarked, TheoremWithoutMark, UnmarkedBegins, UnmarkedFinish, UnmarkedCut, StartMark, FinishedMark, AsWritten, LinkAtMost, AnyAsWritten, FailedPayload, OnlyTheWritten, HarmfulAlone, HarmfulIsAccident}
 use Rattle.history.proofs.States.{Led, Rests, rested, State, pairs_row, flies_stand, all_named, none_named, mark_counted, promised}
 use Rattle.history.proofs.Steps.{start_all, tracked_operator, tracked_known, under_whole, under_kept, finish_state, finish_named, cut_state, cut_named}
 
@@ -288,21 +287,4 @@ any_cut_goes_on before t behind q so_far allowed =
       finished_write = Reached.finish before t behind so_far q allowed;
       torn_write = λ none k is point. Reached.cut before t behind so_far q allowed (subst (λ (tear : Tear). Possible tear (size (write_to before t behind q))) (sym is) point) none;
       torn_sectors = λ none reached is. Reached.cut before t behind so_far q allowed (subst (λ (tear : Tear). Possible tear (size (write_to before t behind q))) (sym is) tt) none;
-    }
-
-pub each_step_promised : EachStepPromised
-each_step_promised =
-    record {
-      start = λ ps sound few out room.
-          subst (λ (clean : Bool). Promised clean (map started ps) out) (start_mark ps sound)
-          (history_theorem (map started ps) (any_store_begins ps sound few) out (room ∙ ap (λ (n : ℕ). n * verdict_width) (sym (length-map ps started))));
-      finish = λ before t behind q so_far allowed out room.
-          history_theorem _ (any_cut_goes_on before t behind q so_far allowed).finished_write out
-          (room ∙ ap (λ (n : ℕ). n * verdict_width) (same_length before t (finished (write_to before t behind q) t) behind));
-      cut = λ before t behind q so_far allowed none k is point out room.
-          history_theorem _ ((any_cut_goes_on before t behind q so_far allowed).torn_write none k is point) out
-          (room ∙ ap (λ (n : ℕ). n * verdict_width) (same_length before t (torn_by (write_to before t behind q) t) behind));
-      cut_by_sectors = λ before t behind q so_far allowed none reached is out room.
-          history_theorem _ ((any_cut_goes_on before t behind q so_far allowed).torn_sectors none reached is) out
-          (room ∙ ap (λ (n : ℕ). n * verdict_width) (same_length before t (torn_by (write_to before t behind q) t) behind));
     }

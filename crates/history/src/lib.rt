@@ -19,7 +19,7 @@ pub fn asked_for()
 {}
 
 // Then everything is promised, over what it asks for, written out.
-#[tactic(auto, using(crate::proofs::Theorem::each_step_promised))]
+#[tactic(auto, using(crate::proofs::PromisedLaws::each_step_promised))]
 pub fn asked_steps()
     ensures { EachStepPromised }
 {}

@@ -1,5 +1,5 @@
 -- A planned write is a correct write, and so the cut theorem is about it.
-use Rattle.std.proofs.Common.{◌≡◌, refl, sym, ap, ap₂, subst, ◌∙◌, List, ◌∷◌, ◌++◌, ℕ, ◌+◌, ◌^◌, ◌≤◌, ◌<◌, arith, length, Option, Some, None, Result, Ok, Err, ◌⊎◌, true, false, [], ◌*◌}
+use Rattle.std.proofs.Common.{◌≡◌, refl, sym, ap, ap₂, subst, ◌∙◌, List, ◌∷◌, ◌++◌, ℕ, ◌+◌, ◌^◌, ◌≤◌, ◌<◌, arith, length, Option, Some, None, Result, Ok, Err}
 use Rattle.std.proofs.lemmas.Option.{some_pair_parts, same_Some}
 use Rattle.codec.specs.Bytes.{AllBytes}
 use Rattle.slot.specs.Status.{other}
@@ -15,12 +15,12 @@ use Rattle.pair.specs.Pair.{winner_info, next_write}
 use Rattle.judge.specs.Numbers.{numbers, highest}
 use Rattle.judge.specs.Verdict.{by_index}
 use Rattle.judge.specs.Judge.{most_pairs}
-use Rattle.judge.specs.Frames.{verdict_width, operator_in, row}
+use Rattle.judge.specs.Frames.{operator_in, row}
 use Rattle.judge.specs.Same.{AllFit, frame_of}
 use Rattle.judge.proofs.SameLaws.{operator-read, row-is}
 use Rattle.judge.specs.declared.pairs.Pair.{Pair as ShownPair}
-use Rattle.cut.specs.Store.{store_mark, Every, Pair, accepts, slot_at, report, framed_pair, framed, shown, frames, SoundPair, Sound}
-use Rattle.cut.specs.Cut.{Tear, Ascending, Sectors, size, old, new, left, Possible, Written, CorrectWith, AccidentBy, Survives}
+use Rattle.cut.specs.Store.{Every, Pair, slot_at, report, framed_pair, framed, shown, frames, SoundPair}
+use Rattle.cut.specs.Cut.{Tear, Ascending, Sectors, old, new, left, Written, CorrectWith, AccidentBy}
 use Rattle.cut.proofs.FrameLaws.{PairTyped, row_fits, count_frames}
 use Rattle.cut.proofs.EveryLaws.{every_split}
 use Rattle.cut.proofs.PairLaws.{other_other}
@@ -31,7 +31,7 @@ use Rattle.plan.specs.declared.write.Plan.{Plan}
 use Rattle.plan.specs.Pairs.{frame_report}
 use Rattle.plan.specs.Plan.{followed, plan_write}
 use Rattle.plan.specs.Next.{fields_of, encoded, write_by, next_write as next_by}
-use Rattle.plan.specs.Promise.{AnyGiven, AnyPlannedFor, NumberedPair, write_of, IsGiven, PlannedIsCorrect, Answer, SurvivesCuts, BothKindsSurvived, NextWriteSurvived}
+use Rattle.plan.specs.Promise.{AnyGiven, AnyPlannedFor, NumberedPair, write_of, IsGiven, PlannedIsCorrect, Answer, SurvivesCuts, BothKindsSurvived}
 use Rattle.plan.proofs.PlanLaws.{Has, plan_has, planned_frame, planned_few, next_of_winner}
 use Rattle.plan.proofs.ReportLaws.{held_report, winner_held, followed_held}
 use Rattle.plan.proofs.FrameLaws.{frame_reports, frame_at, fits_at}
@@ -225,31 +225,4 @@ any_planned_for given i a b payload answer before p behind plan crc sound either
       read_b = read_b;
       planned = planned;
       accepted = accepted;
-    }
-
--- ---- the promise over all of it
-
-module _ (before : List Pair) (p : Pair) (behind : List Pair) (owner compat : ℕ) (payload buffer written : List ℕ) (plan : Plan) (crc : ℕ)
-    (sound : Sound (before ++ p ∷ behind)) (either : (store_mark (before ++ p ∷ behind) ≡ false) ⊎ (before ≡ []))
-    (owner_fits : owner < 2 ^ 64) (compat_fits : compat < 2 ^ 32) (bytes : AllBytes payload) (accepted_it : accepts p.decoder payload ≡ true)
-    (is : next_by (frames (before ++ p ∷ behind)) (length before) p.a.expect p.b.expect owner compat payload buffer ≡ (written, Ok (Some (plan, crc)))) where
-  promised : (tear : Tear) (verdicts : List ℕ)
-      → Possible tear (size (write_of before p behind plan owner compat payload buffer tear))
-      → (AccidentBy tear (left (write_of before p behind plan owner compat payload buffer tear)) (slot_at plan.index p).bytes written payload → ⊥)
-      → length verdicts ≡ length (before ++ p ∷ behind) * verdict_width
-      → Survives (write_of before p behind plan owner compat payload buffer tear) verdicts
-  promised tear verdicts possible none room =
-      (survives_cuts (frames (before ++ p ∷ behind)) (length before) p.a.expect p.b.expect owner compat payload buffer written (Ok (Some (plan, crc)))
-      owner_fits compat_fits bytes (sym is) before p behind plan tear verdicts
-      (any_planned_for (frames (before ++ p ∷ behind)) (length before) p.a.expect p.b.expect payload (Ok (Some (plan, crc))) before p behind plan crc
-      sound either refl refl refl refl refl accepted_it)
-      possible none room).1
-
-pub next_write_survived : NextWriteSurvived
-next_write_survived =
-    record {
-      ascending = λ before p behind owner compat payload buffer written plan crc k verdicts sound either owner_fits compat_fits bytes accepted_it is point none room.
-          promised before p behind owner compat payload buffer written plan crc sound either owner_fits compat_fits bytes accepted_it is (Ascending k) verdicts point none room;
-      sectors = λ before p behind owner compat payload buffer written plan crc reached verdicts sound either owner_fits compat_fits bytes accepted_it is none room.
-          promised before p behind owner compat payload buffer written plan crc sound either owner_fits compat_fits bytes accepted_it is (Sectors reached) verdicts tt none room;
     }

@@ -41,7 +41,7 @@ pub fn cuts_law()
 {}
 
 // Does nothing: its contract is what `next_write` promises of cuts, over all that it asks for, written out.
-#[tactic(auto, using(crate::proofs::CorrectLaws::next_write_survived))]
+#[tactic(auto, using(crate::proofs::PromiseLaws::next_write_survived))]
 pub fn next_write_law()
     ensures { NextWriteSurvived }
 {}
